@@ -1,0 +1,5 @@
+pub mod LayoutLaws
+pub mod MacroLaws
+pub mod BitLaws
+pub mod MapLaws
+pub mod BlockLaws

@@ -1,0 +1,9 @@
+pub mod Layout
+pub mod Fs
+pub mod Dinode
+pub mod Dir
+pub mod Extattr
+pub mod Maps
+pub mod Macros
+pub mod Named
+pub mod Read
