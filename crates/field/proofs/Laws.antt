@@ -121,7 +121,7 @@ take-bytes (suc n) (x ∷ xs) b zero = b 0
 take-bytes (suc n) (x ∷ xs) b (suc i) = take-bytes n xs (λ k. b (suc k)) i
 
 -- a part of bytes, and what is left of it: past its end `getD` gives 0
-part-bytes : (n at : ℕ) (xs : List ℕ) → Bytes xs → Bytes (part n at xs)
+pub part-bytes : (n at : ℕ) (xs : List ℕ) → Bytes xs → Bytes (part n at xs)
 unfolding part
 part-bytes n at xs b i = take-bytes n (drop at xs) (λ k. rw getD-drop (b (at + k))) i
 
@@ -340,6 +340,12 @@ pub putNum-byte : (o : Order) (at v : ℕ) (xs : List ℕ) → v < 256 → putNu
 unfolding putNum put digits turn
 putNum-byte Little at v xs h = ap (set xs at) (omega arith)
 putNum-byte Big at v xs h = ap (set xs at) (omega arith)
+
+-- the one digit of a byte is the byte, in either order
+pub one-digit : (o : Order) (v : ℕ) → v < 256 → turn o (digits 1 v) ≡ v ∷ []
+unfolding turn digits
+one-digit Little v h = ap (λ (x : ℕ). x ∷ []) (omega arith)
+one-digit Big v h = ap (λ (x : ℕ). x ∷ []) (omega arith)
 
 -- a field of a byte image fits its width
 pub num-bound : (o : Order) (n at : ℕ) (xs : List ℕ) → Bytes xs → at + n ≤ length xs → num o n at xs < 256 ^ n

@@ -2,7 +2,7 @@
 use mathlib.Core.Path.{_≡_}
 use mathlib.Core.Bool.{Bool, true, false}
 use mathlib.Core.List.{List, [], _∷_, _++_}
-use Prim.Native.Nat.{ℕ, zero, suc, _+_}
+use Prim.Native.Nat.{ℕ, zero, suc, _+_, min}
 use lib.ListN.{length}
 use Rattle.refusal.specs.declared.Refusal.{Refusal}
 use Rattle.store.specs.Store.{Store, applyAll, cut}
@@ -84,6 +84,10 @@ made m img = length (m img .stores)
 -- 01: "each of these calls made to stop after a given number of stores"
 unfoldable pub cutAct : {A : Type 0} → ℕ → Act A → List ℕ → List ℕ
 cutAct k m img = cut k (m img .stores) img
+
+-- what is then left: the image, the answer, and the number of stores made
+abbrev pub cutLeaves : {A : Type 0} → ℕ → Act A → List ℕ → List ℕ × Out A × ℕ
+cutLeaves k m img = (cutAct k m img, m img .out, min k (made m img))
 
 -- P holds at every cut, so also once the call is finished
 pub record Always {A : Type 0} (P : List ℕ → Type 0) (m : Act A) (img : List ℕ) : Type 0 where

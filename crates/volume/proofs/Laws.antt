@@ -103,6 +103,10 @@ module _ (o : Order) (c : Count) (at v : ℕ) (img : List ℕ) where
   unfolding putCount
   length-putCount = length-putNum o 4 (at + countPlace c) v img
 
+  pub putCount-is : putCount o c at v img ≡ putNum o 4 (at + countPlace c) v img
+  unfolding putCount
+  putCount-is = refl
+
   pub kept-putCount : Kept (at + countPlace c) 4 img (putCount o c at v img)
   unfolding putCount
   kept-putCount = kept-putNum o 4 (at + countPlace c) v img
@@ -121,6 +125,10 @@ module _ (o : Order) (c : Count) (v : ℕ) (img : List ℕ) where
   pub length-putTotal : length (putTotal o c v img) ≡ length img
   unfolding putTotal
   length-putTotal = length-putNum o 8 (sbAt + totalPlace c) v img
+
+  pub putTotal-is : putTotal o c v img ≡ putNum o 8 (sbAt + totalPlace c) v img
+  unfolding putTotal
+  putTotal-is = refl
 
   pub kept-putTotal : Kept (sbAt + totalPlace c) 8 img (putTotal o c v img)
   unfolding putTotal

@@ -1,0 +1,2 @@
+pub mod GiveLaws
+pub mod Theorems

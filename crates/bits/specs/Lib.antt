@@ -1,0 +1,3 @@
+-- The rules of the free map and of the inode map.
+pub mod Upto
+pub mod Bits

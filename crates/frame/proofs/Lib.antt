@@ -1,0 +1,4 @@
+pub mod Places
+pub mod Stores
+pub mod SoundKept
+pub mod WriteLaws

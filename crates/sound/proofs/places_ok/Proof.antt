@@ -1,0 +1,14 @@
+-- `places_ok` meets its contract. Assumes nothing.
+use borrow.Author.Needs.{needs}
+use Rattle.sound.specs.Clauses.{placesOk}
+use Rattle.sound.proofs.places_ok.Statement.{statement}
+use Rattle.sound.proofs.places_ok.Tie as tie
+
+returns : tie.Need-returns
+unfolding placesOk
+returns c = cc
+
+pub places-ok-spec : {M : Type 1} → statement M
+places-ok-spec =
+    tie.close
+    (tie.spec (λ c κs. search needs) (λ c κs. search needs) (λ c κs. search needs) (λ c. search needs) (λ c κs. search needs) returns)
