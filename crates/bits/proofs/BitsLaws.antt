@@ -9,14 +9,14 @@ use native.Mathlib.Decide.{ℕ-discrete, decLt}
 use native.Mathlib.Omega.{arith}
 use lib.Dec.{eqb}
 use lib.ListN.{length, getD, set}
-use lib.Seq.{getD-set-same}
+use lib.Seq.{getD-set-same, set-getD}
 use borrow.Author.Tests.{eqb-true, eq-eqb, ne-eqb}
 use Rattle.field.specs.Field.{put, Kept}
 use Rattle.field.proofs.Laws.{put-none, put-more, kept-put}
 use Rattle.bits.specs.Upto.{asBit}
 use Rattle.bits.specs.Bits.{isFrag, bit, bitAt, isClear, fragFree, bitsAre, blockFree, blockFull, putBits, putBitsAt}
 use Rattle.bits.proofs.UptoLaws.{as-bit-one, true-not-false, not-true, all-none, all-more, all-at, all-holds, all-fail, all-same, all-split}
-use Rattle.bits.proofs.ByteLaws.{bit-two, bit-zero, bit-ones, put-inside, put-outside, put-lt, run-test}
+use Rattle.bits.proofs.ByteLaws.{bit-two, bit-zero, bit-ones, put-no-bits, put-inside, put-outside, put-lt, run-test}
 
 -- ---- frag
 
@@ -237,7 +237,7 @@ module _ (v : ℕ) (img : List ℕ) (at h k i s : ℕ) {frag : ℕ} (e : frag �
 
 -- ---- one byte stored
 
-put-one : (at v : ℕ) (xs : List ℕ) → put at (v ∷ []) xs ≡ set xs at v
+pub put-one : (at v : ℕ) (xs : List ℕ) → put at (v ∷ []) xs ≡ set xs at v
 put-one at v xs = put-more at (v ∷ []) xs 0 (omega arith) ∙ ap (λ (ys : List ℕ). set ys (at + 0) v) (put-none at xs) ∙ ap (λ (k : ℕ). set xs k v) (add-zero at)
 
 module _ (v : ℕ) (img : List ℕ) (at f n : ℕ) where
@@ -258,8 +258,13 @@ module _ (v : ℕ) (img : List ℕ) (at f n : ℕ) where
   unfolding putBitsAt
   putBitsAt-set = put-one (at + f / 8) _ img
 
+-- a run of no bits leaves the image
+pub putBitsAt-none : (v : ℕ) (img : List ℕ) (at f : ℕ) → putBitsAt v img at f 0 ≡ img
+putBitsAt-none v img at f =
+    putBitsAt-set v img at f 0 ∙ ap (set img (at + f / 8)) (put-no-bits v (f % 8) (getD img (at + f / 8) 0)) ∙ set-getD img (at + f / 8) 0
+
 module _ (v : ℕ) (img : List ℕ) (at f n : ℕ) (two : v < 2) (in-byte : f % 8 + n ≤ 8) (in-image : at + f / 8 < length img) where
-  byte-stored : getD (putBitsAt v img at f n) (at + f / 8) 0 ≡ putBits v n (f % 8) (getD img (at + f / 8) 0)
+  pub byte-stored : getD (putBitsAt v img at f n) (at + f / 8) 0 ≡ putBits v n (f % 8) (getD img (at + f / 8) 0)
   byte-stored = rw (putBitsAt-set v img at f n) (getD-set-same img (at + f / 8) _ 0 in-image)
 
   -- the bits of the run are v

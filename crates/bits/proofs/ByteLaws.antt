@@ -3,7 +3,7 @@ use mathlib.Core.Path.{_≡_, refl, sym, ap, subst, _∙_}
 use mathlib.Core.Bool.{true, _&&_}
 use mathlib.Core.Logic.{_⊎_, ⊎-elim}
 use Prim.Native.Nat.{ℕ, zero, suc, _+_, _-_, _*_, _/_, _%_, _^_, _≤_, _<_}
-use native.Mathlib.Nat.{zero-mul, one-mul, mul-assoc, mul-comm, mul-le-mul, add-mul, add-comm, pow-suc, pow-succ', mul-add-div-right, mul-add-mod-self-right, zero-div, mod-lt}
+use native.Mathlib.Nat.{add-zero, mul-zero, mul-one, zero-mul, one-mul, mul-assoc, mul-comm, mul-le-mul, add-mul, add-comm, pow-suc, pow-succ', mul-add-div-right, mul-add-mod-self-right, zero-div, mod-lt}
 use native.Mathlib.Omega.{arith}
 use lib.Arith.{digits-lt}
 use lib.Count.{ones, onesIn, ones-cat}
@@ -106,6 +106,12 @@ module _ (v n s x : ℕ) (two : v < 2) where
       let top : x / 2 ^ (s + n) < 2 ^ d = shr-lt d (s + n) (subst (λ (q : ℕ). x < 2 ^ q) (sym e) h) in
       let p : 2 ^ d * 2 ^ n * 2 ^ s ≡ 2 ^ m = mul-assoc (2 ^ d) (2 ^ n) (2 ^ s) ∙ ap (λ (q : ℕ). 2 ^ d * q) (mul-comm (2 ^ n) (2 ^ s) ∙ sym (pow-add 2 s n)) ∙ sym (pow-add 2 d (s + n)) ∙ ap (λ (q : ℕ). 2 ^ q) e in
       rw (put-parts v n s x, ← p) (digits-lt (digits-lt top (filled-lt v n two)) (mod-lt x (pow-pos s)))
+
+-- a run of no bits leaves the byte
+pub put-no-bits : (v s x : ℕ) → putBits v 0 s x ≡ x
+put-no-bits v s x =
+    put-parts v 0 s x
+    ∙ rw (add-zero s, mul-zero v, mul-one (x / 2 ^ s), add-zero (x / 2 ^ s)) (split x s)
 
 -- as the code adds it up, from v and the three powers of two
 module _ {w v above below run : ℕ} (n s x : ℕ) (e : w ≡ v) (a : above ≡ 2 ^ (s + n)) (b : below ≡ 2 ^ s) (r : run ≡ 2 ^ n) where

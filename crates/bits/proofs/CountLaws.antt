@@ -3,7 +3,7 @@ use mathlib.Core.Path.{_≡_, refl, sym, ap, _∙_}
 use mathlib.Core.Bool.{Bool, true, false, not, _&&_, and-true, and-false}
 use mathlib.Core.List.{List}
 use Prim.Native.Nat.{ℕ, _+_, _-_, _*_, _/_, _%_, _^_, _≤_, _<_, min}
-use native.Mathlib.Nat.{add-zero, mul-add, mul-comm, mul-le-mul-left, mul-add-div, div-eq-of-lt, le-div-iff-mul-le}
+use native.Mathlib.Nat.{add-zero, mul-add, mul-assoc, mul-comm, mul-le-mul-left, mul-add-div, div-eq-of-lt, le-div-iff-mul-le, div-le-of-le-mul}
 use native.Mathlib.Omega.{arith}
 use lib.Count.{ones}
 use borrow.Author.Tests.{lt-ltb, le-ltb}
@@ -57,6 +57,30 @@ module _ (frag i h per to nb : ℕ) (is : isFrag frag ≡ true) (byte : frag * p
 
   pub walk-on : to < nb → frag * to ≡ 8 * (i + 1)
   walk-on l = let e : to ≡ h + per = omega arith in rw e (omega (arith, next-bit))
+
+-- one pass over the map of n fragments and n / frag blocks: byte i begins with block per * i
+module _ (frag per n i : ℕ) (is : isFrag frag ≡ true) (byte : frag * per ≡ 8) where
+  pass-bit : frag * (per * i) ≡ 8 * i
+  pass-bit = sym (mul-assoc frag per i) ∙ ap (λ (k : ℕ). k * i) byte
+
+  pass-block : i < (n + 7) / 8 → per * i ≤ n / frag
+  pass-block l = le-div-iff-mul-le (frag-some frag is) .1 (rw (mul-comm (per * i) frag) (omega (arith, pass-bit)))
+
+  -- the blocks before byte i, and before the end
+  pub pass-here : i < (n + 7) / 8 → min (per * i) (n / frag) ≡ per * i
+  pass-here l = omega (arith, pass-block l)
+
+  pub pass-end : (n + 7) / 8 ≤ i → min (per * i) (n / frag) ≡ n / frag
+  pass-end l = let u : n / frag ≤ per * i = div-le-of-le-mul frag (omega (arith, pass-bit)) in omega arith
+
+  pub pass-byte : (at to end : ℕ) → to ≡ min (per * i + per) (n / frag) → i < (n + 7) / 8 → at + (n + 7) / 8 ≤ end → InByte frag at i (per * i) to end
+  pass-byte at to end most l b = record {
+    frags = is;
+    ordered = omega (arith, pass-block l);
+    first-bit = pass-bit;
+    last-bit = let u : to ≤ per * i + per = omega arith in omega (arith, mul-le-mul-left frag u, mul-add frag (per * i) per, pass-bit);
+    byte = omega arith;
+  }
 
 -- ---- scans
 
@@ -174,3 +198,7 @@ module _ (frag : ℕ) (img : List ℕ) (at nb : ℕ) (some : 0 < frag) where
 
   pub loose-minus : (n : ℕ) → frag * nb ≤ n → looseFrags frag img at n nb ≡ freeFrags img at n - frag * freeBlocks frag img at nb
   loose-minus n l = omega (arith, loose-sum n l)
+
+  -- the fragments of free blocks are free
+  pub blocks-free : (n : ℕ) → frag * nb ≤ n → frag * freeBlocks frag img at nb ≤ freeFrags img at n
+  blocks-free n l = omega (arith, loose-sum n l)

@@ -113,6 +113,12 @@ unfolding sum
 sum-times f v zero = omega arith
 sum-times f v (suc n) = omega (arith, sum-times f v n, mul-add v (sum f n) (f n))
 
+-- sums of what is joined number by number
+pub sum-joined : (f g h : ℕ → ℕ) (v n : ℕ) → ((k : ℕ) → k < n → f k + v * g k ≡ h k) → sum f n + v * sum g n ≡ sum h n
+unfolding sum
+sum-joined f g h v zero e = omega (arith, mul-zero v)
+sum-joined f g h v (suc n) e = omega (arith, mul-add v (sum g n) (g n), sum-joined f g h v n (λ k l. e k (omega arith)), e n (omega arith))
+
 -- n groups of s numbers, in each of which f falls short of g by c
 pub sum-groups : (f g c : ℕ → ℕ) (s n : ℕ) → ((h : ℕ) → h < n → sum (λ (k : ℕ). f (s * h + k)) s + c h ≡ sum (λ (k : ℕ). g (s * h + k)) s) →
     sum f (s * n) + sum c n ≡ sum g (s * n)

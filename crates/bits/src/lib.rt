@@ -1,7 +1,8 @@
 // balloc.rs, cg_*: the rules of the free map and of the inode map, which are bytes of a lent slice that begin at `at`.
 ghost use mathlib.Core.Path.{_≡_};
 ghost use mathlib.Core.Bool.{true};
-ghost use Prim.Native.Nat.{_+_, _*_, _/_, _%_, _^_, _<_, _≤_};
+ghost use Prim.Native.Nat.{_+_, _-_, _*_, _/_, _%_, _^_, _<_, _≤_};
+ghost use lib.Dec.{eqb};
 ghost use lib.ListN.{length, getD};
 ghost use Rattle.bits.specs.Upto.{asBit};
 ghost use Rattle.bits.specs.Bits.{isFrag, fragFree, bitsAre, blockFree, blockFull, putBits, putBitsAt};
@@ -178,4 +179,13 @@ pub fn clear_bits(img: &[u8], at: usize, from: usize, n: usize) -> bool
     }
     let done = 8 * last;
     run_clear(img, at, done, end - done)
+}
+
+// Whether the n bits from s of the byte x are all 1.
+pub fn all_free(x: u8, s: usize, n: usize) -> bool
+    requires { ⌜ (s < 8) × (s + n ≤ 8) ⌝ }
+    ensures { λ r. ⌜ r ≡ eqb (x / 2 ^ s % 2 ^ n) (2 ^ n - 1) ⌝ }
+{
+    let run = two_to(n);
+    wide(x >> s) % run == run - 1
 }

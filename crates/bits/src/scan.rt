@@ -184,3 +184,29 @@ pub fn count_blocks(img: &[u8], at: usize, frag: u32, nb: usize) -> usize
     }
     total
 }
+
+// What one pass over a map counts.
+pub struct MapCount {
+    pub blocks: usize,
+    pub frags: usize,
+}
+
+// The free blocks and the free fragments of the first n fragments, in one pass over the map's bytes.
+pub fn count_map(img: &[u8], at: usize, frag: u32, n: usize) -> MapCount
+    requires { ⌜ (isFrag frag ≡ true) × (at + (n + 7) / 8 ≤ length (now img)) × (n < 2 ^ 32) ⌝ }
+    ensures { λ r. ⌜ (r .blocks ≡ freeBlocks frag (now (img .entry)) at (n / frag)) × (r .frags ≡ freeFrags (now (img .entry)) at n) × (frag * r .blocks ≤ r .frags) ⌝ }
+{
+    let per = per_byte(frag);
+    let nb = n / (frag as usize);
+    let bytes = (n + 7) / 8;
+    let mut blocks: usize = 0;
+    let mut frags: usize = 0;
+    let mut i = 0;
+    while i < bytes {
+        let to = least(per * i + per, nb);
+        blocks += blocks_in_byte(img, at, frag, i, per * i, to);
+        frags += frags_in_byte(img, at, i, least(8, n - 8 * i));
+        i += 1;
+    }
+    MapCount { blocks, frags }
+}

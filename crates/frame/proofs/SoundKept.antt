@@ -141,7 +141,7 @@ module _ (geo : Geometry) (xs : List ℕ) (fr : Frame geo xs) where
       go (yes h) = inl (⊎-elim (λ x. omega arith) (λ x. omega arith) o)
       go (no h) = inr (⊎-elim (λ x. omega arith) (λ x. omega arith) o)
 
-  count-marks : (g : ℕ) (c : Count) → g < geo .ncg → MarksApart geo (cgAt geo g + countPlace c) 4
+  pub count-marks : (g : ℕ) (c : Count) → g < geo .ncg → MarksApart geo (cgAt geo g + countPlace c) 4
   count-marks g c l =
       let q = count-place c in
       let s = spots geo xs fr g l in
@@ -160,7 +160,7 @@ module _ (geo : Geometry) (xs : List ℕ) (fr : Frame geo xs) where
       go (yes h) = inl (omega arith)
       go (no h) = inr (omega arith)
 
-  total-marks : (c : Count) → MarksApart geo (sbAt + totalPlace c) 8
+  pub total-marks : (c : Count) → MarksApart geo (sbAt + totalPlace c) 8
   total-marks c =
       let q = total-place c in
       record {
@@ -170,7 +170,7 @@ module _ (geo : Geometry) (xs : List ℕ) (fr : Frame geo xs) where
       }
 
   -- n bytes inside group g past its record's fields, outside its copy's magic
-  area-marks : (g a n : ℕ) → g < geo .ncg → cgAt geo g + 168 ≤ a → a + n ≤ byteAt geo g (geo .fpg) → Outside a n (byteAt geo g (geo .sblkno) + 1372) 4 → MarksApart geo a n
+  pub area-marks : (g a n : ℕ) → g < geo .ncg → cgAt geo g + 168 ≤ a → a + n ≤ byteAt geo g (geo .fpg) → Outside a n (byteAt geo g (geo .sblkno) + 1372) 4 → MarksApart geo a n
   area-marks g a n l lo hi own =
       let s = spots geo xs fr g l in
       record {
@@ -183,7 +183,7 @@ module _ (geo : Geometry) (xs : List ℕ) (fr : Frame geo xs) where
             (λ x. ⊎-elim (λ e. let z : cgAt geo g ≡ cgAt geo h = ap (cgAt geo) e in inl (omega arith)) (λ k. inl (omega (arith, byteAt-next geo k))) x) (order g h);
       }
 
-  area-counts : (g a n : ℕ) → g < geo .ncg → cgAt geo g + 168 ≤ a → a + n ≤ byteAt geo g (geo .fpg) → CountsApart geo a n
+  pub area-counts : (g a n : ℕ) → g < geo .ncg → cgAt geo g + 168 ≤ a → a + n ≤ byteAt geo g (geo .fpg) → CountsApart geo a n
   area-counts g a n l lo hi =
       let s = spots geo xs fr g l in
       record {

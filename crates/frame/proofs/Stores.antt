@@ -92,7 +92,7 @@ module _ (geo : Geometry) (a n : ℕ) (xs ys : List ℕ) (fr : Frame geo xs) (k 
 
 module _ (geo : Geometry) (xs : List ℕ) (fr : Frame geo xs) where
   -- n bytes at j of group g's record are not the m bytes at i of group h's
-  record-apart : (g j n h i m : ℕ) → g < geo .ncg → h < geo .ncg → cgAt geo g + j + n ≤ byteAt geo g (geo .iblkno) → cgAt geo h + i + m ≤ byteAt geo h (geo .iblkno)
+  pub record-apart : (g j n h i m : ℕ) → g < geo .ncg → h < geo .ncg → cgAt geo g + j + n ≤ byteAt geo g (geo .iblkno) → cgAt geo h + i + m ≤ byteAt geo h (geo .iblkno)
       → (g ≡ h → (i + m ≤ j) ⊎ (j + n ≤ i)) → Outside (cgAt geo g + j) n (cgAt geo h + i) m
   record-apart g j n h i m lg lh wg wh q =
       let s = spots geo xs fr g lg in
@@ -102,7 +102,7 @@ module _ (geo : Geometry) (xs : List ℕ) (fr : Frame geo xs) where
       (λ k. inl (omega (arith, byteAt-next geo k))) x)
       (order g h)
 
-  fields-apart : (g j n : ℕ) → g < geo .ncg → cgAt geo g + j + n ≤ byteAt geo g (geo .iblkno) → (24 ≤ j) × ((j + n ≤ 92) ⊎ (100 ≤ j)) → FieldsApart geo (cgAt geo g + j) n
+  pub fields-apart : (g j n : ℕ) → g < geo .ncg → cgAt geo g + j + n ≤ byteAt geo g (geo .iblkno) → (24 ≤ j) × ((j + n ≤ 92) ⊎ (100 ≤ j)) → FieldsApart geo (cgAt geo g + j) n
   fields-apart g j n lg w q =
       let s = spots geo xs fr g lg in
       record {

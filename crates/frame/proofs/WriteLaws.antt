@@ -6,22 +6,35 @@ use mathlib.Core.Logic.{_⊎_, inl, inr, ⊎-elim}
 use Prim.Native.Nat.{ℕ, _+_, _-_, _*_, _/_, _%_, _^_, _≤_, _<_}
 use native.Mathlib.Decide.{decLt}
 use native.Mathlib.Omega.{arith}
-use lib.ListN.{length, getD}
+use lib.ListN.{length, getD, set}
+use lib.Seq.{set-set}
+use Rattle.field.specs.declared.Order.{Order}
 use Rattle.field.specs.Field.{Kept}
-use Rattle.field.proofs.Laws.{kept-wider, one-digit}
+use Rattle.field.proofs.Laws.{kept-wider, one-digit, putNum-byte}
 use Rattle.store.specs.Store.{Write, Store, apply, applyIf, number}
-use Rattle.store.proofs.StoreLaws.{number-at, number-bytes, apply-number, apply-one, applyIf-yes, applyIf-no}
+use Rattle.store.specs.Where.{WriteIn, Range}
+use Rattle.store.proofs.OnlyLaws.{number-in}
+use Rattle.store.proofs.StoreLaws.{number-at, number-bytes, apply-number, apply-one, applyIf-number, applyIf-yes, applyIf-no}
 use Rattle.volume.specs.declared.Geometry.{Geometry}
 use Rattle.volume.specs.declared.Count.{Count}
 use Rattle.volume.specs.Volume.{sbAt, cgAt, countPlace, totalPlace, putCount, putTotal}
 use Rattle.volume.proofs.Laws.{count-place, total-place, kept-putCount, kept-putTotal, putCount-is, putTotal-is}
 use Rattle.bits.specs.Bits.{bitAt, putBits, putBitsAt}
-use Rattle.bits.proofs.BitsLaws.{putBitsAt-is, kept-putBitsAt, bitAt-inside, bitAt-outside}
+use Rattle.bits.proofs.BitsLaws.{put-one, putBitsAt-is, putBitsAt-set, kept-putBitsAt, bitAt-inside, bitAt-outside}
 use Rattle.sound.specs.Sound.{groupAt, freeAt}
 use Rattle.frame.specs.Frame.{Never, Frame, Spots}
 use Rattle.frame.specs.Writes.{mapWrite, countWrite, totalWrite}
 use Rattle.frame.proofs.Places.{spots}
 use Rattle.frame.proofs.Stores.{counts-frame, totals-frame, map-frame}
+
+module _ (geo : Geometry) where
+  pub count-write-is : (g : ℕ) (c : Count) (v : ℕ) → countWrite geo g c v ≡ number (geo .order) 4 (cgAt geo g + countPlace c) v
+  unfolding countWrite
+  count-write-is g c v = refl
+
+  pub total-write-is : (c : Count) (v : ℕ) → totalWrite geo c v ≡ number (geo .order) 8 (sbAt + totalPlace c) v
+  unfolding totalWrite
+  total-write-is c v = refl
 
 module _ (geo : Geometry) (img : List ℕ) where
   pub apply-count : (g : ℕ) (c : Count) (v : ℕ) → apply (countWrite geo g c v ∷ []) img ≡ putCount (geo .order) c (cgAt geo g) v img
@@ -41,6 +54,36 @@ module _ (geo : Geometry) (img : List ℕ) where
   unfolding mapWrite
   map-write-number v g f n p x ep ex b =
       λ i. record { at = (sym ep ∙ sym (number-at (geo .order) 1 p x)) i; bytes = (ap (λ (y : ℕ). y ∷ []) (sym ex) ∙ sym (number-bytes (geo .order) 1 p x ∙ one-digit (geo .order) x b)) i }
+
+  -- a map byte written over one of the same run, shorter or longer
+  pub apply-map-over : (v g f n m : ℕ) → apply (mapWrite v geo g f n img ∷ []) (putBitsAt v img (freeAt geo g img) f m) ≡ putBitsAt v img (freeAt geo g img) f n
+  unfolding mapWrite
+  apply-map-over v g f n m =
+      let at = freeAt geo g img in
+      apply-one (mapWrite v geo g f n img) (putBitsAt v img at f m)
+      ∙ put-one (at + f / 8) (putBits v n (f % 8) (getD img (at + f / 8) 0)) (putBitsAt v img at f m)
+      ∙ ap (λ (xs : List ℕ). set xs (at + f / 8) (putBits v n (f % 8) (getD img (at + f / 8) 0))) (putBitsAt-set v img at f m)
+      ∙ set-set img (at + f / 8) _ _
+      ∙ sym (putBitsAt-set v img at f n)
+
+  -- a map byte as code stores it, into any image
+  pub applyIf-map : (go : Bool) (o : Order) (v g f n b : ℕ) (ys : List ℕ) → b ≡ putBits v n (f % 8) (getD img (freeAt geo g img + f / 8) 0) → b < 256
+      → applyIf go (number o 1 (freeAt geo g img + f / 8) b ∷ []) ys ≡ applyIf go (mapWrite v geo g f n img ∷ []) ys
+  unfolding mapWrite
+  applyIf-map true o v g f n b ys e l =
+      applyIf-number o 1 (freeAt geo g img + f / 8) b {go = true} refl ys ∙ putNum-byte o (freeAt geo g img + f / 8) b ys l
+      ∙ ap (set ys (freeAt geo g img + f / 8)) e
+      ∙ sym (applyIf-yes {go = true} refl (mapWrite v geo g f n img ∷ []) ys ∙ apply-one (mapWrite v geo g f n img) ys ∙ put-one (freeAt geo g img + f / 8) _ ys)
+  applyIf-map false o v g f n b ys e l = applyIf-no {go = false} refl _ ys ∙ sym (applyIf-no {go = false} refl _ ys)
+
+-- the bytes of each
+pub count-in : {Q : ℕ → Type 0} (geo : Geometry) (g : ℕ) (c : Count) (v : ℕ) → ((j : ℕ) → Range (cgAt geo g + countPlace c) 4 j → Q j) → WriteIn Q (countWrite geo g c v)
+unfolding countWrite
+count-in geo g c v h = number-in (geo .order) 4 (cgAt geo g + countPlace c) v h
+
+pub total-in : {Q : ℕ → Type 0} (geo : Geometry) (c : Count) (v : ℕ) → ((j : ℕ) → Range (sbAt + totalPlace c) 8 j → Q j) → WriteIn Q (totalWrite geo c v)
+unfolding totalWrite
+total-in geo c v h = number-in (geo .order) 8 (sbAt + totalPlace c) v h
 
 -- a store that is made or not keeps the frame if the store does
 pub frame-if : (geo : Geometry) (img : List ℕ) (go : Bool) (s : Store) → Frame geo img → Frame geo (apply s img) → Frame geo (applyIf go s img)

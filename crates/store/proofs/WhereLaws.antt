@@ -21,6 +21,10 @@ pub all-append : {A : Type 0} {P : A → Type 0} {xs ys : List A} → All P xs �
 all-append none q = q
 all-append (more p ps) q = more p (all-append ps q)
 
+pub all-parts : {A : Type 0} {P : A → Type 0} (xs : List A) {ys : List A} → All P (xs ++ ys) → All P xs × All P ys
+all-parts [] p = (none, p)
+all-parts (x ∷ xs) (more p ps) = let q = all-parts xs ps in (more p (q .0), q .1)
+
 pub all-take : {A : Type 0} {P : A → Type 0} (k : ℕ) {xs : List A} → All P xs → All P (take k xs)
 all-take zero p = none
 all-take (suc k) none = none
@@ -37,6 +41,12 @@ number-apart o n at v h =
     let a = number-at o n at v in
     let l = number-length o n at v in
     ⊎-elim (λ b. inl (omega arith)) (λ b. inr (omega arith)) h
+
+pub number-meets : (o : Order) (n at v : ℕ) {j : ℕ} → Range at n j → Apart j (number o n at v) → ⊥
+number-meets o n at v r a =
+    let e = number-at o n at v in
+    let l = number-length o n at v in
+    ⊎-elim (λ b. omega arith) (λ b. omega arith) a
 
 pub apply-outside : {j : ℕ} {s : Store} → Outside j s → (img : List ℕ) → getD (apply s img) j 0 ≡ getD img j 0
 unfolding apply

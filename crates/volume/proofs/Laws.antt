@@ -191,3 +191,27 @@ module _ {a n : ℕ} {xs ys : List ℕ} (k : Kept a n xs ys) where
         iusedoff = kept-num o 4 (at + 92) k (⊎-elim (λ x. inl (omega arith)) (λ x. inr (omega arith)) w) i;
         freeoff = kept-num o 4 (at + 96) k (⊎-elim (λ x. inl (omega arith)) (λ x. inr (omega arith)) w) i;
       }
+
+-- ---- the fields as plain numbers, and two images in which those of a group record are the same
+
+module _ (o : Order) (at : ℕ) (img : List ℕ) where
+  pub magic-is : magicAt o at img ≡ num o 4 (at + 1372) img
+  unfolding magicAt
+  magic-is = refl
+
+  pub group-magic-is : groupMagicAt o at img ≡ num o 4 (at + 4) img
+  unfolding groupMagicAt
+  group-magic-is = refl
+
+  pub count-is : (c : Count) → countAt o c at img ≡ num o 4 (at + countPlace c) img
+  unfolding countAt
+  count-is c = refl
+
+pub total-is : (o : Order) (c : Count) (img : List ℕ) → totalAt o c img ≡ num o 8 (sbAt + totalPlace c) img
+unfolding totalAt
+total-is o c img = refl
+
+pub group-same : (o : Order) (at : ℕ) (xs ys : List ℕ) → num o 4 (at + 20) ys ≡ num o 4 (at + 20) xs → num o 4 (at + 92) ys ≡ num o 4 (at + 92) xs
+    → num o 4 (at + 96) ys ≡ num o 4 (at + 96) xs → groupOf o at ys ≡ groupOf o at xs
+unfolding groupOf
+group-same o at xs ys ndblk iusedoff freeoff = λ i. record { ndblk = ndblk i; iusedoff = iusedoff i; freeoff = freeoff i }

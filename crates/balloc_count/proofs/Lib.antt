@@ -1,0 +1,3 @@
+pub mod FreshLaws
+pub mod CountsLaws
+pub mod RecountLaws

@@ -1,0 +1,2 @@
+-- The recount's definitions.
+pub mod Recount
