@@ -9,12 +9,16 @@ use native.Mathlib.Omega.{arith}
 use native.Mathlib.Decide.{decLt}
 use lib.ListN.{length, getD}
 use lib.Dec.{ltb, leb}
-use Rattle.store.specs.Store.{number, applyIf, cut}
-use Rattle.store.specs.Act.{Out, got, refused, Run, made, cutAct, cutLeaves}
-use Rattle.store.proofs.CutLaws.{cut-row, cut-act, cut-none}
+use Rattle.field.specs.Field.{put, zeros}
+use Rattle.store.specs.Store.{number, apply, applyIf, cut}
+use Rattle.store.specs.Act.{Out, got, refused, Run, pure, leaves, made, cutAct, cutLeaves}
+use Rattle.store.proofs.StoreLaws.{apply-one, length-applyAll}
+use Rattle.store.proofs.ActLaws.{leaves-pure, step-store, step-good, step-bad, left-out, left-image}
+use Rattle.store.proofs.CutLaws.{cut-row, cut-act, cut-none, cut-whole}
 use Rattle.volume.specs.declared.Geometry.{Geometry}
 use Rattle.volume.specs.declared.Count.the-variants.{Nbfree}
-use Rattle.volume.specs.Volume.{cgAt, countAt, totalAt}
+use Rattle.volume.specs.Volume.{byteAt, cgAt, countAt, totalAt}
+use Rattle.volume.proofs.Laws.{byteAt-mono, byteAt-add}
 use Rattle.bits.specs.declared.Found.{Found}
 use Rattle.bits.specs.declared.Found.the-variants.{At, Nothing}
 use Rattle.bits.specs.Upto.{asBit}
@@ -22,6 +26,7 @@ use Rattle.bits.specs.Bits.{isFrag, firstFree, blockFree, putBits}
 use Rattle.bits.proofs.BitsLaws.{frag-some, frag-most, block-in-byte, block-ends}
 use Rattle.bits.proofs.UptoLaws.{IsFirst, first-found, as-bit-false}
 use Rattle.bits.proofs.CountLaws.{first-free-is}
+use Rattle.refusal.specs.declared.Refusal.{Refusal}
 use Rattle.refusal.specs.declared.Refusal.the-variants.{NoSpace}
 use Rattle.sound.specs.Sound.{groupAt, freeAt}
 use Rattle.frame.specs.Frame.{Never, Frame, Spots}
@@ -31,7 +36,7 @@ use Rattle.frame.proofs.WriteLaws.{frame-if, count-frame, clear-write-frame, ma
 use Rattle.balloc_give.specs.declared.Giving.{Giving}
 use Rattle.balloc_give.specs.declared.Chosen.{Chosen}
 use Rattle.balloc_give.specs.declared.Chosen.the-variants as Chosen
-use Rattle.balloc_give.specs.Give.{Values, positive, blocksIn, inGroup, orElse, chooseFrom, chosen, blockAddress, giveStores, giving, giveBlock}
+use Rattle.balloc_give.specs.Give.{Values, positive, blocksIn, inGroup, orElse, chooseFrom, chosen, blockAddress, giveStores, giving, giveBlock, giveZeroed, zeroWrite}
 
 -- ---- where a block stands
 
@@ -251,3 +256,65 @@ give-made k geo img g h r v x y z ex ey ez = rw (give-cut k geo img g h, v .map,
 pub address-is : (geo : Geometry) (g h p : ℕ) → p ≡ g * geo .fpg → p + geo .frag * h ≡ blockAddress geo g h
 unfolding blockAddress
 address-is geo g h p e = rw e
+
+-- ---- a block given and zeroed
+
+pub block-place : (geo : Geometry) (g h : ℕ) → blockAddress geo g h * geo .fsize ≡ byteAt geo g (geo .frag * h)
+unfolding blockAddress byteAt
+block-place geo g h = refl
+
+-- at most three stores
+pub give-most : (geo : Geometry) (img : List ℕ) → made (giveBlock geo) img ≤ 3
+unfolding giveBlock
+give-most geo img = go (chosen geo img)
+  where
+    go : (c : Chosen) → length (giving geo img c .stores) ≤ 3
+    go Chosen.Nothing = omega arith
+    go (Chosen.Block g h) = omega (arith, give-three geo img g h)
+
+-- a block given lies in the image
+pub given-inside : (geo : Geometry) (img : List ℕ) → Frame geo img → (a : ℕ) → giveBlock geo img .out ≡ got a → (a * geo .fsize + geo .bsize ≤ length img) × (length img ≤ 1073741824)
+unfolding giveBlock
+given-inside geo img fr a e = go (chosen geo img) refl e
+  where
+    go : (c : Chosen) → chosen geo img ≡ c → giving geo img c .out ≡ got a → (a * geo .fsize + geo .bsize ≤ length img) × (length img ≤ 1073741824)
+    go Chosen.Nothing q e = absurd (let z : _≡_ {A = ℕ} 0 1 = cc in let y : ⊥ = omega arith in y)
+    go (Chosen.Block g h) q e =
+        let i = chosen-is geo img g h q in
+        let s = spots geo img fr g (i .group) in
+        let p : blockAddress geo g h ≡ a = cc in
+        let m = byteAt-mono geo g (block-inside geo img fr g h (i .group) (i .block)) in
+        let d = byteAt-add geo g (geo .frag * h) (geo .frag) in
+        let u : a * geo .fsize ≡ byteAt geo g (geo .frag * h) = ap (λ (x : ℕ). x * geo .fsize) (sym p) ∙ block-place geo g h in
+        let f : geo .frag * geo .fsize ≡ geo .bsize = mul-comm (geo .frag) (geo .fsize) ∙ fr .sizes .fsize in
+        (omega arith, s .small)
+
+-- a number above all its stores: the whole call
+pub give-whole : (geo : Geometry) (img s : List ℕ) (o : Out ℕ) (n : ℕ) → (s, o, n) ≡ cutLeaves 18446744073709551615 (giveBlock geo) img → (s, o) ≡ leaves (giveBlock geo) img
+unfolding leaves
+give-whole geo img s o n e =
+    let m = give-most geo img in
+    let es : s ≡ cutAct 18446744073709551615 (giveBlock geo) img = ap (λ (t : List ℕ × Out ℕ × ℕ). t .0) e in
+    let eo : o ≡ giveBlock geo img .out = ap (λ (t : List ℕ × Out ℕ × ℕ). t .1) e in
+    let ew : cutAct 18446744073709551615 (giveBlock geo) img ≡ leaves (giveBlock geo) img .0 = cut-whole 18446744073709551615 (giveBlock geo) img (omega arith) in
+    λ i. ((es ∙ ew) i, eo i)
+
+module _ (geo : Geometry) (img s : List ℕ) (o : Out ℕ) (n : ℕ) (e : (s, o, n) ≡ cutLeaves 18446744073709551615 (giveBlock geo) img) where
+  pub zeroed-in : Frame geo img → (a : ℕ) → o ≡ got a → (a * geo .fsize + geo .bsize ≤ length s) × (a * geo .fsize + geo .bsize ≤ 1073741824)
+  zeroed-in fr a q =
+      let w = give-whole geo img s o n e in
+      let i = given-inside geo img fr a (left-out (giveBlock geo) img w ∙ q) in
+      let l : length s ≡ length img = ap length (left-image (giveBlock geo) img w) ∙ length-applyAll (giveBlock geo img .stores) img in
+      (omega arith, omega arith)
+
+  pub zeroed-made : (a : ℕ) → o ≡ got a → (x : List ℕ) → x ≡ put (a * geo .fsize) (zeros (geo .bsize)) s → (x, got a) ≡ leaves (giveZeroed geo) img
+  unfolding giveZeroed zeroWrite
+  zeroed-made a q x ex =
+      rw (ex, ← apply-one (zeroWrite geo a) s)
+      (leaves-pure a (apply (zeroWrite geo a ∷ []) s)
+      ∙ step-store (zeroWrite geo a ∷ []) (λ _. pure a) s
+      ∙ step-good (giveBlock geo) _ img (give-whole geo img s o n e) q)
+
+  pub zeroed-not : (r : Refusal) → o ≡ refused r → (s, refused r) ≡ leaves (giveZeroed geo) img
+  unfolding giveZeroed
+  zeroed-not r q = step-bad (giveBlock geo) _ img (give-whole geo img s o n e) q

@@ -7,8 +7,9 @@ use lib.ListN.{length}
 use lib.Dec.{ltb}
 use Rattle.refusal.specs.declared.Refusal.{Refusal}
 use Rattle.refusal.specs.declared.Refusal.the-variants.{NoSpace}
-use Rattle.store.specs.Store.{Store, number}
-use Rattle.store.specs.Act.{Out, got, refused, Run, Act}
+use Rattle.field.specs.Field.{zeros}
+use Rattle.store.specs.Store.{Write, Store, number}
+use Rattle.store.specs.Act.{Out, got, refused, Run, Act, pure, store, _>>=_, _>>_}
 use Rattle.volume.specs.declared.Geometry.{Geometry}
 use Rattle.volume.specs.declared.Count.the-variants.{Nbfree}
 use Rattle.volume.specs.Volume.{cgAt, countAt, totalAt}
@@ -20,6 +21,8 @@ use Rattle.sound.specs.Sound.{groupAt, freeAt}
 use Rattle.frame.specs.Writes.{mapWrite, countWrite, totalWrite, down}
 use Rattle.balloc_give.specs.declared.Chosen.{Chosen}
 use Rattle.balloc_give.specs.declared.Chosen.the-variants as Chosen
+use Rattle.balloc_give.specs.declared.Zeroed.{Zeroed}
+use Rattle.balloc_give.specs.declared.Zeroed.the-variants as Zeroed
 use Rattle.balloc_give.specs.declared.Giving.{Giving}
 use Rattle.balloc_give.specs.declared.Gave.{Gave}
 use Rattle.balloc_give.specs.declared.Gave.the-variants.{Block, No}
@@ -71,10 +74,24 @@ giving geo img (Chosen.Block g h) = record { stores = giveStores geo img g h; ou
 unfoldable pub giveBlock : Geometry → Act ℕ
 giveBlock geo img = giving geo img (chosen geo img)
 
+-- blk_alloc_full_zeroed: then bsize zeros at the block
+unfoldable pub zeroWrite : Geometry → ℕ → Write
+zeroWrite geo a = record { at = a * geo .fsize; bytes = zeros (geo .bsize) }
+
+unfoldable pub giveZeroed : Geometry → Act ℕ
+giveZeroed geo = do
+  a ← giveBlock geo
+  store (zeroWrite geo a ∷ [])
+  pure a
+
 -- the code's answer as one of these
 abbrev pub gaveOut : Gave → Out ℕ
 gaveOut (Block a n) = got (a .0)
 gaveOut (No e) = refused e
+
+abbrev pub zeroedOut : Zeroed → Out ℕ
+zeroedOut (Zeroed.Block a) = got (a .0)
+zeroedOut (Zeroed.No e) = refused e
 
 abbrev pub gaveMade : Gave → ℕ
 gaveMade (Block a n) = n

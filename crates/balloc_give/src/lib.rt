@@ -2,9 +2,9 @@
 ghost use mathlib.Core.Path.{_≡_};
 ghost use Prim.Native.Nat.{_<_, min};
 ghost use Rattle.store.specs.Store.{cut};
-ghost use Rattle.store.specs.Act.{cutLeaves};
+ghost use Rattle.store.specs.Act.{cutLeaves, leaves};
 ghost use Rattle.frame.specs.Frame.{Frame};
-ghost use Rattle.balloc_give.specs.Give.{blocksIn, inGroup, chosen, giveStores, giveBlock, gaveOut, gaveMade, Values};
+ghost use Rattle.balloc_give.specs.Give.{blocksIn, inGroup, chosen, giveStores, giveBlock, gaveOut, gaveMade, Values, giveZeroed, zeroedOut};
 use bits::Found;
 use refusal::Refusal;
 use volume::Count;
@@ -21,6 +21,12 @@ pub enum Chosen {
 // The block's address and the number of stores made, or a refusal.
 pub enum Gave {
     Block(FragNum, u64),
+    No(Refusal),
+}
+
+// The address of a block given out and zeroed, or a refusal.
+pub enum Zeroed {
+    Block(FragNum),
     No(Refusal),
 }
 
@@ -119,5 +125,20 @@ pub fn blk_alloc_full(img: &mut [u8], geo: Geometry, k: u64) -> Gave
             Gave::Block(FragNum(a as u64), at_most(k, 3))
         }
         Chosen::Nothing => Gave::No(Refusal::NoSpace),
+    }
+}
+
+// blk_alloc_full_zeroed: a block given out, and zeros stored in it.
+pub fn blk_alloc_full_zeroed(img: &mut [u8], geo: Geometry) -> Zeroed
+    requires { ⌜ Frame geo (now img) ⌝ }
+    ensures { λ r. ⌜ (now (img .exit), zeroedOut r) ≡ leaves (giveZeroed geo) (now (img .entry)) ⌝ }
+{
+    let r = blk_alloc_full(img, geo, 18446744073709551615);
+    match r {
+        Gave::Block(a, n) => {
+            field::zero_bytes(img, volume::address_at(geo, a), geo.bsize as usize);
+            Zeroed::Block(a)
+        }
+        Gave::No(e) => Zeroed::No(e),
     }
 }

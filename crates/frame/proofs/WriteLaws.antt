@@ -4,6 +4,7 @@ use mathlib.Core.Bool.{Bool, true, false}
 use mathlib.Core.List.{List, [], _∷_}
 use mathlib.Core.Logic.{_⊎_, inl, inr, ⊎-elim}
 use Prim.Native.Nat.{ℕ, _+_, _-_, _*_, _/_, _%_, _^_, _≤_, _<_}
+use native.Mathlib.Nat.{mod-eq-of-lt, add-mod-right}
 use native.Mathlib.Decide.{decLt}
 use native.Mathlib.Omega.{arith}
 use lib.ListN.{length, getD, set}
@@ -23,7 +24,7 @@ use Rattle.bits.specs.Bits.{bitAt, putBits, putBitsAt}
 use Rattle.bits.proofs.BitsLaws.{put-one, putBitsAt-is, putBitsAt-set, kept-putBitsAt, bitAt-inside, bitAt-outside}
 use Rattle.sound.specs.Sound.{groupAt, freeAt}
 use Rattle.frame.specs.Frame.{Never, Frame, Spots}
-use Rattle.frame.specs.Writes.{mapWrite, countWrite, totalWrite}
+use Rattle.frame.specs.Writes.{mapWrite, countWrite, totalWrite, up, down}
 use Rattle.frame.proofs.Places.{spots}
 use Rattle.frame.proofs.Stores.{counts-frame, totals-frame, map-frame}
 
@@ -75,6 +76,24 @@ module _ (geo : Geometry) (img : List ℕ) where
       ∙ ap (set ys (freeAt geo g img + f / 8)) e
       ∙ sym (applyIf-yes {go = true} refl (mapWrite v geo g f n img ∷ []) ys ∙ apply-one (mapWrite v geo g f n img) ys ∙ put-one (freeAt geo g img + f / 8) _ ys)
   applyIf-map false o v g f n b ys e l = applyIf-no {go = false} refl _ ys ∙ sym (applyIf-no {go = false} refl _ ys)
+
+-- ---- counts, modulo 256 ^ w, and where they do not wrap
+
+pub up-is : (w x d : ℕ) → up w x d ≡ (x + d) % 256 ^ w
+unfolding up
+up-is w x d = refl
+
+pub down-is : (w x d : ℕ) → down w x d ≡ (x + (256 ^ w - d)) % 256 ^ w
+unfolding down
+down-is w x d = refl
+
+pub up-fits : (w x d : ℕ) → x + d < 256 ^ w → up w x d ≡ x + d
+up-fits w x d h = up-is w x d ∙ mod-eq-of-lt h
+
+pub down-fits : (w x d : ℕ) → d ≤ x → x < 256 ^ w → down w x d + d ≡ x
+down-fits w x d l h =
+    let e : x + (256 ^ w - d) ≡ x - d + 256 ^ w = omega arith in
+    rw (down-is w x d, e, add-mod-right (x - d) (256 ^ w), mod-eq-of-lt {n = x - d} {m = 256 ^ w} (omega arith)) (omega arith)
 
 -- the bytes of each
 pub count-in : {Q : ℕ → Type 0} (geo : Geometry) (g : ℕ) (c : Count) (v : ℕ) → ((j : ℕ) → Range (cgAt geo g + countPlace c) 4 j → Q j) → WriteIn Q (countWrite geo g c v)
