@@ -1,0 +1,9 @@
+pub mod RunLaws
+pub mod FinishedLaws
+pub mod TrueKept
+pub mod Shape
+pub mod Demand
+pub mod Calls
+pub mod BlockCalls
+pub mod Uncut
+pub mod Three
