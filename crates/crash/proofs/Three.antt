@@ -30,16 +30,14 @@ demand-three vol img e w t m cs k =
     let r = run-cut vol geo img w (λ z s c. call-cut vol geo img z w s c) cs k img go in
     record { done = r .done; rest = r .rest; all = r .all; like = r .like; cut-call = r .cut-call; sound = r .sound; left = r .left }
 
--- on every volume that newfs or makefs makes
-pub apart-below : (img : List ℕ) → soundb img ≡ true → geometryOf img .sblkno * geometryOf img .fsize ≤ 65536 → MagicApart (geometryOf img) img
-apart-below img e l g b =
+-- where each copy of the superblock, as far as its magic, ends before its group's record: on every card that we have
+pub apart-before : (img : List ℕ) → soundb img ≡ true → geometryOf img .sblkno * geometryOf img .fsize + 1376 ≤ geometryOf img .cblkno * geometryOf img .fsize → MagicApart (geometryOf img) img
+apart-before img e l g b =
     let geo = geometryOf img in
-    let fr = frame-of img e in
-    let p = fr .laid .past in
     let s = byteAt-eq geo g (geo .sblkno) in
     let c = byteAt-eq geo g (geo .cblkno) in
     inl (omega arith)
 
-pub demand-three-below : (vol : Volume) (img : List ℕ) → soundb img ≡ true → vol .writable ≡ true → TrueCounts (geometryOf img) img → geometryOf img .sblkno * geometryOf img .fsize ≤ 65536
-    → (cs : List Call) (k : ℕ) → Survives vol img cs k
-demand-three-below vol img e w t l cs k = demand-three vol img e w t (apart-below img e l) cs k
+pub demand-three-before : (vol : Volume) (img : List ℕ) → soundb img ≡ true → vol .writable ≡ true → TrueCounts (geometryOf img) img
+    → geometryOf img .sblkno * geometryOf img .fsize + 1376 ≤ geometryOf img .cblkno * geometryOf img .fsize → (cs : List Call) (k : ℕ) → Survives vol img cs k
+demand-three-before vol img e w t l cs k = demand-three vol img e w t (apart-before img e l) cs k

@@ -71,7 +71,7 @@ recounted vol img = leaves (recount vol) img .0
 abbrev pub MapByte : Geometry → List ℕ → ℕ → Type 0
 MapByte geo img j = (g : ℕ) × (g < geo .ncg) × Range (freeAt geo g img) ((groupAt geo g img .ndblk + 7) / 8) j
 
--- no superblock copy's magic stands inside its group's free map: so it is where sblkno * fsize <= 65,536, on every volume that newfs or makefs makes
+-- no superblock copy's magic stands inside its group's free map: so it is where sblkno * fsize + 1376 <= cblkno * fsize, as on every card that we have
 abbrev pub MagicApart : Geometry → List ℕ → Type 0
 MagicApart geo img = (g : ℕ) → g < geo .ncg → Outside (freeAt geo g img) ((groupAt geo g img .ndblk + 7) / 8) (byteAt geo g (geo .sblkno) + 1372) 4
 
