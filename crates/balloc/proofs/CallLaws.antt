@@ -4,7 +4,7 @@ use mathlib.Core.Bool.{Bool, true, false}
 use mathlib.Core.List.{List, []}
 use mathlib.Core.Logic.{_⊎_, inl, inr}
 use Prim.Native.Nat.{ℕ, min, _≤_, _<_}
-use native.Mathlib.Nat.{min-eq-right}
+use native.Mathlib.Nat.{min-zero, min-eq-right}
 use native.Mathlib.Omega.{arith}
 use lib.ListN.{length}
 use Rattle.refusal.specs.declared.Refusal.{Refusal}
@@ -37,7 +37,7 @@ use Rattle.balloc.specs.declared.Freed.{Freed}
 use Rattle.balloc.specs.declared.Freed.the-variants as Freed
 use Rattle.balloc.specs.declared.Recounted.{Recounted}
 use Rattle.balloc.specs.declared.Recounted.the-variants as Recounted
-use Rattle.balloc.specs.Calls.{entering, writing, blkAlloc, blkFree, recount, givenOf, freedOf, recountedOf, allocCut, freeCut, allocPlain, freePlain, recountPlain}
+use Rattle.balloc.specs.Calls.{entering, writing, blkAlloc, blkFree, recount, givenOf, freedOf, recountedOf, cutAnswer, plainAnswer, allocCut, freeCut, allocPlain, freePlain, recountPlain}
 
 -- ---- the volume
 
@@ -75,20 +75,37 @@ module _ {A : Type 0} (vol : Volume) (f : Geometry → Act A) (img : List ℕ) w
       go (Sound geo) e true q = inr (geo, e, q)
       go (Sound geo) e false q = inl (ReadOnly, when-read-only geo e q)
 
+-- ---- what any call leaves and answers
+
+module _ {A B : Type 0} (f : Out A → ℕ → B) (m : Act A) (img : List ℕ) where
+  refused-cut : (k : ℕ) (e : Refusal) → m img ≡ record { stores = []; out = refused e } → (img, f (refused e) 0) ≡ cutAnswer f k m img
+  refused-cut k e q = rw (cut-act k m img, q, cut-none k img, min-zero k)
+
+  refused-plain : (e : Refusal) → m img ≡ record { stores = []; out = refused e } → (img, f (refused e) 0) ≡ plainAnswer f m img
+  unfolding leaves
+  refused-plain e q = rw (q, applyAll-none img)
+
+  -- from what the work leaves, where past the tests the call is the work
+  done-cut : (k : ℕ) (work : Act A) → m img ≡ work img → (s : List ℕ) (o : Out A) (n : ℕ) → (s, o, n) ≡ cutLeaves k work img → (s, f o n) ≡ cutAnswer f k m img
+  unfolding cutAct
+  done-cut k work e s o n q = ap (λ (t : List ℕ × Out A × ℕ). (t .0, f (t .1) (t .2))) q ∙ rw e
+
+  -- a number above all its stores
+  plain-cut : (k : ℕ) → made m img ≤ k → cutAnswer f k m img ≡ plainAnswer f m img
+  plain-cut k l =
+      let n : min k (made m img) ≡ made m img = min-eq-right l in
+      rw (cut-whole k m img l, n)
+
 -- ---- the recount
 
 module _ (vol : Volume) (img : List ℕ) where
-  recount-refused : (e : Refusal) → recount vol img ≡ record { stores = []; out = refused e } → _≡_ {A = List ℕ × Recounted} (img, Recounted.No e) (recountPlain vol img)
-  unfolding recountPlain leaves
-  recount-refused e q = rw (q, applyAll-none img)
-
   pub recount-unsound : takenOf img ≡ Unsound → _≡_ {A = List ℕ × Recounted} (img, Recounted.No Damaged) (recountPlain vol img)
-  unfolding recount
-  recount-unsound e = recount-refused Damaged (when-unsound vol recountAll img e)
+  unfolding recountPlain recount
+  recount-unsound e = refused-plain (recountedOf vol) (recount vol) img Damaged (when-unsound vol recountAll img e)
 
   pub recount-read-only : (geo : Geometry) → takenOf img ≡ Sound geo → vol .writable ≡ false → _≡_ {A = List ℕ × Recounted} (img, Recounted.No ReadOnly) (recountPlain vol img)
-  unfolding recount
-  recount-read-only geo e w = recount-refused ReadOnly (when-read-only vol recountAll img geo e w)
+  unfolding recountPlain recount
+  recount-read-only geo e w = refused-plain (recountedOf vol) (recount vol) img ReadOnly (when-read-only vol recountAll img geo e w)
 
   pub recount-done : (geo : Geometry) → takenOf img ≡ Sound geo → vol .writable ≡ true → (s : List ℕ) (r : Fresh) → (s, got r) ≡ leaves (recountAll geo) img
       → _≡_ {A = List ℕ × Recounted} (s, Recounted.Totals (r .nbfree) (r .nffree) vol) (recountPlain vol img)
@@ -101,37 +118,28 @@ pub recount-is : (vol : Volume) (img : List ℕ) (geo : Geometry) → takenOf im
 unfolding recount leaves recountAll
 recount-is vol img geo e w = rw (when-taken vol recountAll img geo e w)
 
--- two calls that do the same on an image leave the same at every cut
-same-cut : {A : Type 0} (k : ℕ) (m n : Act A) (img : List ℕ) → m img ≡ n img → cutLeaves k m img ≡ cutLeaves k n img
-unfolding cutAct
-same-cut k m n img e = rw e
-
 -- ---- giving out
 
-allocAnswer : Volume → ℕ → List ℕ × Out ℕ × ℕ → List ℕ × Given
-allocAnswer vol bsize t = (t .0, givenOf vol bsize (t .1) (t .2))
-
 module _ (vol : Volume) (size k : ℕ) (img : List ℕ) where
-  alloc-refused : (e : Refusal) → blkAlloc vol size img ≡ record { stores = []; out = refused e } → _≡_ {A = List ℕ × Given} (img, Given.No e) (allocCut vol size k img)
-  unfolding allocCut
-  alloc-refused e q = rw (cut-act k (blkAlloc vol size) img, q, cut-none k img)
+  answers : Out ℕ → ℕ → Given
+  answers = givenOf vol (geometryOf img .bsize)
 
   pub alloc-unsound : takenOf img ≡ Unsound → _≡_ {A = List ℕ × Given} (img, Given.No Damaged) (allocCut vol size k img)
-  unfolding blkAlloc
-  alloc-unsound e = alloc-refused Damaged (when-unsound vol _ img e)
+  unfolding allocCut blkAlloc answers
+  alloc-unsound e = refused-cut answers (blkAlloc vol size) img k Damaged (when-unsound vol _ img e)
 
   module _ (geo : Geometry) (e : takenOf img ≡ Sound geo) where
     pub alloc-read-only : vol .writable ≡ false → _≡_ {A = List ℕ × Given} (img, Given.No ReadOnly) (allocCut vol size k img)
-    unfolding blkAlloc
-    alloc-read-only w = alloc-refused ReadOnly (when-read-only vol _ img geo e w)
-
-    pub alloc-bad-size : vol .writable ≡ true → goodSize geo size ≡ false → _≡_ {A = List ℕ × Given} (img, Given.No Invalid) (allocCut vol size k img)
-    unfolding blkAlloc choose refuse
-    alloc-bad-size w g = alloc-refused Invalid (when-taken vol _ img geo e w ∙ rw g)
+    unfolding allocCut blkAlloc answers
+    alloc-read-only w = refused-cut answers (blkAlloc vol size) img k ReadOnly (when-read-only vol _ img geo e w)
 
     pub alloc-bad : vol .writable ≡ true → goodSize geo size ≡ false → blkAlloc vol size img ≡ record { stores = []; out = refused Invalid }
     unfolding blkAlloc choose refuse
     alloc-bad w g = when-taken vol _ img geo e w ∙ rw g
+
+    pub alloc-bad-size : vol .writable ≡ true → goodSize geo size ≡ false → _≡_ {A = List ℕ × Given} (img, Given.No Invalid) (allocCut vol size k img)
+    unfolding allocCut answers
+    alloc-bad-size w g = refused-cut answers (blkAlloc vol size) img k Invalid (alloc-bad w g)
 
     -- past the tests the call is the giving
     pub alloc-is : vol .writable ≡ true → goodSize geo size ≡ true → blkAlloc vol size img ≡ giveBlock geo img
@@ -140,10 +148,9 @@ module _ (vol : Volume) (size k : ℕ) (img : List ℕ) where
 
     pub alloc-done : vol .writable ≡ true → goodSize geo size ≡ true → (s : List ℕ) (o : Out ℕ) (n bsize : ℕ) → (s, o, n) ≡ cutLeaves k (giveBlock geo) img → bsize ≡ geo .bsize
         → (s, givenOf vol bsize o n) ≡ allocCut vol size k img
-    unfolding allocCut allocAnswer
+    unfolding allocCut
     alloc-done w g s o n bsize q b =
-        ap (λ (t : List ℕ × Out ℕ × ℕ). allocAnswer vol bsize t) (q ∙ sym (same-cut k (blkAlloc vol size) (giveBlock geo) img (alloc-is w g)))
-        ∙ rw (b ∙ ap (λ (x : Geometry). x .bsize) (sym (taken-is img geo e .1)))
+        done-cut (givenOf vol bsize) (blkAlloc vol size) img k (giveBlock geo) (alloc-is w g) s o n q ∙ rw (b ∙ ap (λ (x : Geometry). x .bsize) (sym (taken-is img geo e .1)))
 
 pub alloc-entered : (vol : Volume) (size : ℕ) (img : List ℕ)
     → ((e : Refusal) × (blkAlloc vol size img ≡ record { stores = []; out = refused e })) ⊎ ((geo : Geometry) × (takenOf img ≡ Sound geo) × (vol .writable ≡ true))
@@ -153,9 +160,7 @@ alloc-entered vol size img = entered vol _ img
 -- a number above all its stores
 pub alloc-plain : (vol : Volume) (size k : ℕ) (img : List ℕ) → made (blkAlloc vol size) img ≤ k → allocCut vol size k img ≡ allocPlain vol size img
 unfolding allocCut allocPlain
-alloc-plain vol size k img l =
-    let m : min k (made (blkAlloc vol size) img) ≡ made (blkAlloc vol size) img = min-eq-right l in
-    rw (cut-whole k (blkAlloc vol size) img l, m)
+alloc-plain vol size k img l = plain-cut (givenOf vol (geometryOf img .bsize)) (blkAlloc vol size) img k l
 
 -- a writing call makes no more stores than its work
 pub writing-most : {A : Type 0} (vol : Volume) (f : Geometry → Act A) (img : List ℕ) (n : ℕ) → ((geo : Geometry) → takenOf img ≡ Sound geo → made (f geo) img ≤ n) → made (writing vol f) img ≤ n
@@ -177,22 +182,15 @@ alloc-most vol size img = writing-most vol _ img 3 (λ geo _. sized-most geo img
 
 -- ---- taking back
 
-freeAnswer : Volume → List ℕ × Out (Unit {0}) × ℕ → List ℕ × Freed
-freeAnswer vol t = (t .0, freedOf vol (t .1) (t .2))
-
 module _ (vol : Volume) (a size k : ℕ) (img : List ℕ) where
-  free-refused : (e : Refusal) → blkFree vol a size img ≡ record { stores = []; out = refused e } → _≡_ {A = List ℕ × Freed} (img, Freed.No e) (freeCut vol a size k img)
-  unfolding freeCut
-  free-refused e q = rw (cut-act k (blkFree vol a size) img, q, cut-none k img)
-
   pub free-unsound : takenOf img ≡ Unsound → _≡_ {A = List ℕ × Freed} (img, Freed.No Damaged) (freeCut vol a size k img)
-  unfolding blkFree
-  free-unsound e = free-refused Damaged (when-unsound vol _ img e)
+  unfolding freeCut blkFree
+  free-unsound e = refused-cut (freedOf vol) (blkFree vol a size) img k Damaged (when-unsound vol _ img e)
 
   module _ (geo : Geometry) (e : takenOf img ≡ Sound geo) where
     pub free-read-only : vol .writable ≡ false → _≡_ {A = List ℕ × Freed} (img, Freed.No ReadOnly) (freeCut vol a size k img)
-    unfolding blkFree
-    free-read-only w = free-refused ReadOnly (when-read-only vol _ img geo e w)
+    unfolding freeCut blkFree
+    free-read-only w = refused-cut (freedOf vol) (blkFree vol a size) img k ReadOnly (when-read-only vol _ img geo e w)
 
     -- past the tests the call is the taking back
     pub free-is : vol .writable ≡ true → blkFree vol a size img ≡ takeBack geo a size img
@@ -200,8 +198,8 @@ module _ (vol : Volume) (a size k : ℕ) (img : List ℕ) where
     free-is w = when-taken vol _ img geo e w
 
     pub free-done : vol .writable ≡ true → (s : List ℕ) (o : Out (Unit {0})) (n : ℕ) → (s, o, n) ≡ cutLeaves k (takeBack geo a size) img → (s, freedOf vol o n) ≡ freeCut vol a size k img
-    unfolding freeCut freeAnswer
-    free-done w s o n q = ap (λ (t : List ℕ × Out (Unit {0}) × ℕ). freeAnswer vol t) (q ∙ sym (same-cut k (blkFree vol a size) (takeBack geo a size) img (free-is w)))
+    unfolding freeCut
+    free-done w s o n q = done-cut (freedOf vol) (blkFree vol a size) img k (takeBack geo a size) (free-is w) s o n q
 
 pub free-entered : (vol : Volume) (a size : ℕ) (img : List ℕ)
     → ((e : Refusal) × (blkFree vol a size img ≡ record { stores = []; out = refused e })) ⊎ ((geo : Geometry) × (takenOf img ≡ Sound geo) × (vol .writable ≡ true))
@@ -211,9 +209,7 @@ free-entered vol a size img = entered vol _ img
 -- a number above all its stores
 pub free-plain : (vol : Volume) (a size k : ℕ) (img : List ℕ) → made (blkFree vol a size) img ≤ k → freeCut vol a size k img ≡ freePlain vol a size img
 unfolding freeCut freePlain
-free-plain vol a size k img l =
-    let m : min k (made (blkFree vol a size) img) ≡ made (blkFree vol a size) img = min-eq-right l in
-    rw (cut-whole k (blkFree vol a size) img l, m)
+free-plain vol a size k img l = plain-cut (freedOf vol) (blkFree vol a size) img k l
 
 pub free-most : (vol : Volume) (a size : ℕ) (img : List ℕ) → made (blkFree vol a size) img ≤ 11
 unfolding blkFree

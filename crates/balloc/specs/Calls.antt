@@ -52,24 +52,31 @@ abbrev pub freedOf : Volume → Out (Unit {0}) → ℕ → Freed
 freedOf vol (got x) n = Freed.Made n vol
 freedOf vol (refused e) n = Freed.No e
 
-abbrev pub recountedOf : Volume → Out Fresh → Recounted
-recountedOf vol (got t) = Recounted.Totals (t .nbfree) (t .nffree) vol
-recountedOf vol (refused e) = Recounted.No e
+abbrev pub recountedOf : Volume → Out Fresh → ℕ → Recounted
+recountedOf vol (got t) n = Recounted.Totals (t .nbfree) (t .nffree) vol
+recountedOf vol (refused e) n = Recounted.No e
 
--- ---- what the calls leave: "each of these calls made to stop after a given number of stores, answering the number made"
+-- ---- what the calls leave
 
-unfoldable pub allocCut : Volume → ℕ → ℕ → List ℕ → List ℕ × Given
-allocCut vol size k img = (cutAct k (blkAlloc vol size) img, givenOf vol (geometryOf img .bsize) (blkAlloc vol size img .out) (min k (made (blkAlloc vol size) img)))
-
-unfoldable pub freeCut : Volume → ℕ → ℕ → ℕ → List ℕ → List ℕ × Freed
-freeCut vol a size k img = (cutAct k (blkFree vol a size) img, freedOf vol (blkFree vol a size img .out) (min k (made (blkFree vol a size) img)))
+-- "each of these calls made to stop after a given number of stores, answering the number made"
+abbrev pub cutAnswer : {A B : Type 0} → (Out A → ℕ → B) → ℕ → Act A → List ℕ → List ℕ × B
+cutAnswer f k m img = (cutAct k m img, f (m img .out) (min k (made m img)))
 
 -- "the plain call is this one, with a number above all its stores"
+abbrev pub plainAnswer : {A B : Type 0} → (Out A → ℕ → B) → Act A → List ℕ → List ℕ × B
+plainAnswer f m img = (leaves m img .0, f (m img .out) (made m img))
+
+unfoldable pub allocCut : Volume → ℕ → ℕ → List ℕ → List ℕ × Given
+allocCut vol size k img = cutAnswer (givenOf vol (geometryOf img .bsize)) k (blkAlloc vol size) img
+
+unfoldable pub freeCut : Volume → ℕ → ℕ → ℕ → List ℕ → List ℕ × Freed
+freeCut vol a size k img = cutAnswer (freedOf vol) k (blkFree vol a size) img
+
 unfoldable pub allocPlain : Volume → ℕ → List ℕ → List ℕ × Given
-allocPlain vol size img = (leaves (blkAlloc vol size) img .0, givenOf vol (geometryOf img .bsize) (blkAlloc vol size img .out) (made (blkAlloc vol size) img))
+allocPlain vol size img = plainAnswer (givenOf vol (geometryOf img .bsize)) (blkAlloc vol size) img
 
 unfoldable pub freePlain : Volume → ℕ → ℕ → List ℕ → List ℕ × Freed
-freePlain vol a size img = (leaves (blkFree vol a size) img .0, freedOf vol (blkFree vol a size img .out) (made (blkFree vol a size) img))
+freePlain vol a size img = plainAnswer (freedOf vol) (blkFree vol a size) img
 
 unfoldable pub recountPlain : Volume → List ℕ → List ℕ × Recounted
-recountPlain vol img = (leaves (recount vol) img .0, recountedOf vol (recount vol img .out))
+recountPlain vol img = plainAnswer (recountedOf vol) (recount vol) img
