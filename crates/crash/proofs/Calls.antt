@@ -48,6 +48,7 @@ module _ (vol : Volume) (geo : Geometry) (start z : List ℕ) (s : Going geo sta
     shaped-after : Going geo start (applyAll (maps ++ counts) z)
     shaped-after =
         record {
+          long = whole .long ∙ s .long;
           held = whole .held;
           marked = whole .marked;
           counts = t;
@@ -62,6 +63,7 @@ module _ (vol : Volume) (geo : Geometry) (start z : List ℕ) (s : Going geo sta
     past-maps k l =
         let b = at k in
         record {
+          long = b .long;
           held = b .held;
           marked = b .marked;
           groups = b .groups;

@@ -6,7 +6,7 @@ use mathlib.Core.Logic.{_⊎_, inl, inr, ⊎-elim}
 use Prim.Native.Nat.{ℕ, zero, suc, _+_, _-_, _*_, _/_, _%_, _^_, _≤_, _<_}
 use native.Mathlib.Omega.{arith}
 use native.Mathlib.Decide.{decLt}
-use lib.ListN.{length, getD}
+use lib.ListN.{length, getD, length-append}
 use Rattle.store.specs.Store.{Store, applyAll, cut}
 use Rattle.store.specs.Where.{Range, KeptBut}
 use Rattle.store.specs.Act.{leaves}
@@ -29,12 +29,13 @@ use Rattle.balloc_count.proofs.CountsLaws.{group-kept, map-kept}
 use Rattle.balloc_count.proofs.RecountLaws.{leaves-recount, recount-kept, recount-true}
 use Rattle.balloc.specs.Calls.{recount}
 use Rattle.balloc.proofs.CallLaws.{when-taken, recount-is}
-use Rattle.crash.specs.Crash.{Call, give, take, callStores, runStores, finished, cutRun, recounted, MapByte, MagicApart, CutCall, not-made, made, first-few, Recovered}
+use Rattle.crash.specs.Crash.{Call, give, take, callStores, runStores, finished, cutRun, recounted, MapByte, MagicApart, CutCall, not-made, made, first-few, Unfinished, Recovered}
 use Rattle.crash.proofs.Shape.{Held, Between}
 
 -- ---- a volume on its way: z, from the start
 
 pub record Going (geo : Geometry) (start z : List ℕ) : Type 0 where
+  pub long : length z ≡ length start
   pub held : Held geo z
   pub marked : Marked geo z
   pub counts : TrueCounts geo z
@@ -62,6 +63,7 @@ recovered vol geo start z like x w s b gl =
     let t = recount-true geo x fx in
     let e : recounted vol x ≡ applyAll (recountStores geo x) x = recount-is vol x geo (going-taken geo x (b .held) (b .marked)) w in
     rw e (record {
+      long = k .long ∙ b .long ∙ s .long;
       map = λ g l f lf.
           let gx = b .groups g l in
           let gs = s .groups g l in
@@ -90,6 +92,8 @@ pub record Cut (vol : Volume) (geo : Geometry) (start z : List ℕ) (cs : List C
   pub done : List Call
   pub rest : List Call
   pub all : cs ≡ done ++ rest
+  pub in-time : length (runStores vol done z) ≤ k
+  pub not-yet : Unfinished vol (finished vol done z) (k - length (runStores vol done z)) rest
   pub like : List ℕ
   pub cut-call : CutCall vol geo (finished vol done z) rest like
   pub sound : soundb (cutRun vol cs k z) ≡ true
@@ -97,7 +101,7 @@ pub record Cut (vol : Volume) (geo : Geometry) (start z : List ℕ) (cs : List C
 
 -- nothing stored: the map is as it was
 pub between-start : (geo : Geometry) (start z : List ℕ) → Going geo start z → Between geo z z z
-between-start geo start z s = record { held = s .held; marked = s .marked; groups = λ h l. refl; map = λ h l f b. refl; other = λ j n c. refl }
+between-start geo start z s = record { long = refl; held = s .held; marked = s .marked; groups = λ h l. refl; map = λ h l f b. refl; other = λ j n c. refl }
 
 pub run-none : (vol : Volume) (z : List ℕ) → finished vol [] z ≡ z
 unfolding finished runStores
@@ -106,6 +110,15 @@ run-none vol z = applyAll-none z
 pub run-more : (vol : Volume) (c : Call) (cs : List Call) (z : List ℕ) → finished vol (c ∷ cs) z ≡ finished vol cs (applyAll (callStores vol c z) z)
 unfolding finished runStores
 run-more vol c cs z = applyAll-append (callStores vol c z) (runStores vol cs (applyAll (callStores vol c z) z)) z
+
+run-length-none : (vol : Volume) (z : List ℕ) → length (runStores vol [] z) ≡ 0
+unfolding runStores
+run-length-none vol z = refl
+
+run-length : (vol : Volume) (c : Call) (cs : List Call) (z : List ℕ)
+    → length (runStores vol (c ∷ cs) z) ≡ length (callStores vol c z) + length (runStores vol cs (applyAll (callStores vol c z) z))
+unfolding runStores
+run-length vol c cs z = length-append (callStores vol c z) (runStores vol cs (applyAll (callStores vol c z) z))
 
 pub finished-one : (vol : Volume) (c : Call) (z : List ℕ) → finished vol (c ∷ []) z ≡ applyAll (callStores vol c z) z
 finished-one vol c z = run-more vol c [] z ∙ run-none vol (applyAll (callStores vol c z) z)
@@ -132,32 +145,42 @@ module _ (vol : Volume) (geo : Geometry) (start : List ℕ) (w : vol .writable �
         done = [];
         rest = [];
         all = refl;
+        in-time = omega (arith, run-length-none vol z);
+        not-yet = tt {0};
         like = z;
         cut-call = subst (λ (x : List ℕ). CutCall vol geo x [] z) (sym (run-none vol z)) (not-made []);
         sound = rw (cut-empty vol k z) (going-sound geo z (s .held) (s .marked));
         left = rw (cut-empty vol k z) (recovered vol geo start z z z w s (between-start geo start z s) (λ g l. refl));
       }
-  run-cut (c ∷ cs) k z s = go (decLt (length (callStores vol c z)) k) (run-cut cs (k - length (callStores vol c z)) (applyAll (callStores vol c z) z) (call-cut z s c .after))
+  run-cut (c ∷ cs) k z s = go (decLt k (length (callStores vol c z))) (run-cut cs (k - length (callStores vol c z)) (applyAll (callStores vol c z) z) (call-cut z s c .after))
     where
-      go : Dec (length (callStores vol c z) < k) → Cut vol geo start (applyAll (callStores vol c z) z) cs (k - length (callStores vol c z)) → Cut vol geo start z (c ∷ cs) k
-      go (yes l) r =
+      go : Dec (k < length (callStores vol c z)) → Cut vol geo start (applyAll (callStores vol c z) z) cs (k - length (callStores vol c z)) → Cut vol geo start z (c ∷ cs) k
+      go (no l) r =
+          let n = run-length vol c (r .done) z in
+          let t = r .in-time in
+          let later : k - length (callStores vol c z) - length (runStores vol (r .done) (applyAll (callStores vol c z) z)) ≡ k - length (runStores vol (c ∷ r .done) z) = omega arith in
           let e = cut-past-first vol c cs k z (omega arith) in
           record {
             done = c ∷ r .done;
             rest = r .rest;
             all = ap (λ (x : List Call). c ∷ x) (r .all);
+            in-time = omega arith;
+            not-yet = subst (λ (x : List ℕ). Unfinished vol x (k - length (runStores vol (c ∷ r .done) z)) (r .rest)) (sym (run-more vol c (r .done) z))
+                (subst (λ (x : ℕ). Unfinished vol (finished vol (r .done) (applyAll (callStores vol c z) z)) x (r .rest)) later (r .not-yet));
             like = r .like;
             cut-call = subst (λ (x : List ℕ). CutCall vol geo x (r .rest) (r .like)) (sym (run-more vol c (r .done) z)) (r .cut-call);
             sound = rw e (r .sound);
             left = rw e (r .left);
           }
-      go (no l) r =
+      go (yes l) r =
           let i = call-cut z s c .within k cs in
           let e = cut-in-first vol c cs k z (omega arith) in
           record {
             done = [];
             rest = c ∷ cs;
             all = refl;
+            in-time = omega (arith, run-length-none vol z);
+            not-yet = rw (run-none vol z, run-length-none vol z) (omega arith);
             like = i .0;
             cut-call = subst (λ (x : List ℕ). CutCall vol geo x (c ∷ cs) (i .0)) (sym (run-none vol z)) (i .1);
             sound = rw e (going-sound geo _ (i .2 .held) (i .2 .marked));

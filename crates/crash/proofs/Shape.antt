@@ -136,6 +136,7 @@ pub record Shaped (geo : Geometry) (z : List ℕ) (maps counts : List Store) : T
 
 -- what holds of an image x on the way from z: y has its map
 pub record Between (geo : Geometry) (z y x : List ℕ) : Type 0 where
+  pub long : length x ≡ length z
   pub held : Held geo x
   pub marked : Marked geo x
   pub groups : (h : ℕ) → h < geo .ncg → groupAt geo h x ≡ groupAt geo h z
@@ -173,6 +174,7 @@ module _ (geo : Geometry) (z : List ℕ) (fr : Frame geo z) (b : Bounded geo z) 
         let kc = only-all (small-only geo p) y in
         let same = map-groups in
         record {
+          long = kc .long ∙ k .long;
           held = small-all geo p y map-held;
           marked = marked-same geo y (applyAll counts y) fy kc map-marked;
           groups = λ h lh. group-kept geo y (applyAll counts y) fy kc h lh ∙ same h lh;

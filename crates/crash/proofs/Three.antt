@@ -26,9 +26,9 @@ pub demand-three : (vol : Volume) (img : List ℕ) → soundb img ≡ true → v
 demand-three vol img e w t m cs k =
     let geo = geometryOf img in
     let h : Held geo img = record { frame = frame-of img e; bounded = bounded-of img e } in
-    let go : Going geo img img = record { held = h; marked = marked-of img e; counts = t; groups = λ g l. refl; apart = m; other = λ j n c. refl } in
+    let go : Going geo img img = record { long = refl; held = h; marked = marked-of img e; counts = t; groups = λ g l. refl; apart = m; other = λ j n c. refl } in
     let r = run-cut vol geo img w (λ z s c. call-cut vol geo img z w s c) cs k img go in
-    record { done = r .done; rest = r .rest; all = r .all; like = r .like; cut-call = r .cut-call; sound = r .sound; left = r .left }
+    record { done = r .done; rest = r .rest; all = r .all; in-time = r .in-time; not-yet = r .not-yet; like = r .like; cut-call = r .cut-call; sound = r .sound; left = r .left }
 
 -- where each copy of the superblock, as far as its magic, ends before its group's record: on every card that we have
 pub apart-before : (img : List ℕ) → soundb img ≡ true → geometryOf img .sblkno * geometryOf img .fsize + 1376 ≤ geometryOf img .cblkno * geometryOf img .fsize → MagicApart (geometryOf img) img

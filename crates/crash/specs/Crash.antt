@@ -2,9 +2,9 @@
 use mathlib.Core.Path.{_≡_}
 use mathlib.Core.Bool.{true}
 use mathlib.Core.List.{List, [], _∷_, _++_}
-use Prim.Native.Nat.{ℕ, _+_, _/_, _%_, _<_}
+use Prim.Native.Nat.{ℕ, _+_, _-_, _/_, _%_, _≤_, _<_}
 use lib.Dec.{eqb}
-use lib.ListN.{getD}
+use lib.ListN.{length, getD}
 use Rattle.store.specs.Store.{Store, applyAll, cut}
 use Rattle.store.specs.Where.{Range}
 use Rattle.store.specs.Act.{Out, got, refused, leaves}
@@ -81,8 +81,14 @@ pub data CutCall (vol : Volume) (geo : Geometry) (z : List ℕ) : List Call → 
   made : (c : Call) (cs : List Call) → CutCall vol geo z (c ∷ cs) (finished vol (c ∷ []) z)
   first-few : (a size i : ℕ) (cs : List Call) → i < size / geo .fsize → CutCall vol geo z (take a size ∷ cs) (putBitsAt 1 z (freeAt geo (a / geo .fpg) z) (a % geo .fpg) i)
 
+-- k stores after z: the next call, if there is one, has not made its last
+abbrev pub Unfinished : Volume → List ℕ → ℕ → List Call → Type 0
+Unfinished vol z k [] = Unit {0}
+Unfinished vol z k (c ∷ cs) = k < length (callStores vol c z)
+
 -- what the recount leaves: y, from the start, with the free map of m
 pub record Recovered (geo : Geometry) (start m y : List ℕ) : Type 0 where
+  pub long : length y ≡ length start
   -- "leaves the free map of .."
   pub map : (g : ℕ) → g < geo .ncg → (f : ℕ) → f < groupAt geo g start .ndblk → freeBit geo g y f ≡ freeBit geo g m f
   -- "all block and fragment counts equal a fresh count of that map", in every group
@@ -92,11 +98,14 @@ pub record Recovered (geo : Geometry) (start m y : List ℕ) : Type 0 where
   -- "no other byte differs from the start"
   pub other : (j : ℕ) → (MapByte geo start j → ⊥) → (CountByte geo j → ⊥) → getD y j 0 ≡ getD start j 0
 
--- the calls before the cut, the calls from the cut one on, and what is left
+-- the calls finished before the cut, the calls from the cut one on, and what is left
 pub record Survives (vol : Volume) (img : List ℕ) (cs : List Call) (k : ℕ) : Type 0 where
   pub done : List Call
   pub rest : List Call
   pub all : cs ≡ done ++ rest
+  -- the finished calls are those that have made their last store, and no others
+  pub in-time : length (runStores vol done img) ≤ k
+  pub not-yet : Unfinished vol (finished vol done img) (k - length (runStores vol done img)) rest
   pub like : List ℕ
   pub cut-call : CutCall vol (geometryOf img) (finished vol done img) rest like
   -- so that the recount is not refused
