@@ -1,0 +1,12 @@
+pub mod RecordLaws
+pub mod WalkLaws
+pub mod SearchLaws
+pub mod FoundLaws
+pub mod WriteLaws
+pub mod LinkLaws
+pub mod HeaderLaws
+pub mod KeptLaws
+pub mod ReadBackLaws
+pub mod Theorems
+pub mod Calls
+pub mod WalkTheorems

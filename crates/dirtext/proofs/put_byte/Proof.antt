@@ -1,0 +1,13 @@
+-- `put_byte` meets its contract. Assumes nothing.
+use borrow.Author.Needs.{needs}
+use Rattle.dirtext.proofs.TextLaws.{wrote-byte}
+use Rattle.dirtext.proofs.put_byte.Statement.{statement}
+use Rattle.dirtext.proofs.put_byte.Tie as tie
+
+returns : tie.Need-returns
+returns c = wrote-byte _ _ _
+
+pub put-byte-spec : {M : Type 1} → statement M
+put-byte-spec =
+    tie.close
+    (tie.spec (λ c. search needs) (λ c. search needs) (λ c. search needs) returns)
