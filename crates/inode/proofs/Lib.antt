@@ -1,0 +1,5 @@
+pub mod SizeLaws
+pub mod KindLaws
+pub mod ReadLaws
+pub mod HeaderLaws
+pub mod PlaceLaws

@@ -1,0 +1,4 @@
+pub mod Size
+pub mod Shape
+pub mod Places
+pub mod Kind

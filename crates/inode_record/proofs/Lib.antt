@@ -1,0 +1,4 @@
+pub mod SlotLaws
+pub mod RecordLaws
+pub mod ReadLaws
+pub mod HeaderLaws

@@ -1,0 +1,3 @@
+pub mod ZoneLaws
+pub mod MappingLaws
+pub mod HeaderLaws

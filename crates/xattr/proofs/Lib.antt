@@ -1,0 +1,5 @@
+pub mod AreaLaws
+pub mod WindowLaws
+pub mod CallLaws
+pub mod ListLaws
+pub mod Theorems
