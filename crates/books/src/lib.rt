@@ -1,0 +1,1 @@
+// What the books of a volume are, and what stays when they change: definitions and laws, no code.

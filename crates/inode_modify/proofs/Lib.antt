@@ -1,0 +1,2 @@
+pub mod ModifyLaws
+pub mod Theorems

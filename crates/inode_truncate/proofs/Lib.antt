@@ -1,0 +1,3 @@
+pub mod KeepLaws
+pub mod ZoneLaws
+pub mod RecordLaws

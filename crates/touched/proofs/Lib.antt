@@ -1,0 +1,4 @@
+pub mod HoldLaws
+pub mod PlaceLaws
+pub mod ShrinkLaws
+pub mod Truncate
