@@ -13,19 +13,21 @@ pub struct Held {
     pub bytes: Vec<u8>,
     pub log: Vec<Store>,
     pub logged: bool,
+    pub seeks: Vec<u64>,
     left: Option<u64>,
     sought: bool,
 }
 pub type Shared = Rc<RefCell<Held>>;
 
 pub fn shared(bytes: Vec<u8>) -> Shared {
-    Rc::new(RefCell::new(Held { bytes, log: Vec::new(), logged: true, left: None, sought: true }))
+    Rc::new(RefCell::new(Held { bytes, log: Vec::new(), logged: true, seeks: Vec::new(), left: None, sought: true }))
 }
 
 impl Held {
     /// A call begins, which is to stop after `cut` stores.
     pub fn begin(&mut self, cut: Option<u64>) {
         self.log.clear();
+        self.seeks.clear();
         self.left = cut;
         self.sought = true;
     }
@@ -88,7 +90,11 @@ impl Seek for Image {
             SeekFrom::End(d) => (self.shared.borrow().bytes.len() as u64).checked_add_signed(d),
         };
         self.at = at.ok_or(Error::from(ErrorKind::InvalidInput))? as usize;
-        self.shared.borrow_mut().sought = true;
+        let mut held = self.shared.borrow_mut();
+        held.sought = true;
+        if held.logged {
+            held.seeks.push(self.at as u64);
+        }
         Ok(self.at as u64)
     }
 }

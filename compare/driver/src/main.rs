@@ -1,6 +1,8 @@
-//! The block calls of the port beside the Rust's: the same number, answer, image and number of stores after every call,
+//! The calls of the port beside the Rust's. Of the block calls the same number, answer, image and number of stores after every call,
 //! and after every call cut short. Where the two may part, a rule names it: a function of the volume and of the call.
 mod image;
+mod inode_rules;
+mod inodes;
 mod port;
 mod rules;
 
@@ -283,10 +285,14 @@ fn run(count: u64, seed: u64, paths: &[String]) -> Result<(), String> {
         };
         println!("{name}: the Rust: {said}; the port: {}", port::open(&bytes));
         if said != "not opened" && port::open(&bytes) == 0 {
-            for (what, rust, port, changed) in rules::openings(&bytes) {
+            let turned = open_rust(&image::shared(bytes.clone()), true).expect("opened above").reach_big_endian(bytes.clone()).map_err(|e| format!("{name}: {e}"))?;
+            for (what, rust, port, changed) in rules::openings(&bytes).into_iter().chain([("the other order of bytes", true, 97, turned)]) {
                 let is = (open_rust(&image::shared(changed.clone()), true).is_some(), port::open(&changed));
                 if is != (rust, port) {
                     return Err(format!("{name}, opened with {what}: (the Rust opens it, the port's number) is {is:?}, not {:?}", (rust, port)));
+                }
+                if port == 97 && !inodes::all_refused(&changed) {
+                    return Err(format!("{name}, opened with {what}: a reading call does not answer 97"));
                 }
                 let opens = if rust { "opens" } else { "refuses" };
                 *total.entry(format!("opening, {what}: the Rust {opens}, the port answers {port}")).or_default() += 1;
@@ -339,6 +345,7 @@ fn run(count: u64, seed: u64, paths: &[String]) -> Result<(), String> {
     for (rule, n) in total {
         println!("  {n} {rule}{}", smallest.get(&rule).map_or(String::new(), |s| format!(": {}", s.3)));
     }
+    inodes::run(10 * count, &mut r, &cards)?;
     for (name, bytes) in &cards {
         time(name, bytes);
     }
@@ -375,7 +382,12 @@ fn time(name: &str, bytes: &[u8]) {
 }
 
 fn main() {
-    std::panic::set_hook(Box::new(|_| ()));
+    // The Rust's panics are answers; one of this program is not.
+    std::panic::set_hook(Box::new(|p| {
+        if p.location().is_some_and(|l| l.file().starts_with("driver")) {
+            eprintln!("{p}");
+        }
+    }));
     let words: Vec<String> = std::env::args().skip(1).collect();
     let (count, seed) = (words[0].parse().expect("a number of calls"), words[1].parse().expect("a seed"));
     let done = run(count, seed, &words[2..]);

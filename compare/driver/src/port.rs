@@ -1,38 +1,24 @@
-//! The port's calls, in its static library. A slice crosses as its address and its length.
+//! The port's block calls as the driver asks them.
 use crate::rules::Call;
 use crate::Answer;
 
-#[link(name = "boundary", kind = "static")]
-extern "C" {
-    fn hitchsnow_open(img: *const u8, len: usize, writable: bool) -> u32;
-    fn hitchsnow_blk_alloc(img: *mut u8, len: usize, writable: bool, size: u64, address: &mut u64, given: &mut u64, made: &mut u64) -> u32;
-    fn hitchsnow_blk_alloc_cut(img: *mut u8, len: usize, writable: bool, size: u64, k: u64, address: &mut u64, given: &mut u64, made: &mut u64) -> u32;
-    fn hitchsnow_blk_free(img: *mut u8, len: usize, writable: bool, address: u64, size: u64, made: &mut u64) -> u32;
-    fn hitchsnow_blk_free_cut(img: *mut u8, len: usize, writable: bool, address: u64, size: u64, k: u64, made: &mut u64) -> u32;
-    fn hitchsnow_recount(img: *mut u8, len: usize, writable: bool, nbfree: &mut u64, nffree: &mut u64) -> u32;
-}
-
+/// 0 or the refusal's number.
 pub fn open(image: &[u8]) -> u32 {
-    unsafe { hitchsnow_open(image.as_ptr(), image.len(), true) }
+    hitchsnow::open(image, true).err().unwrap_or(0)
 }
 
 pub fn call(image: &mut [u8], writable: bool, call: Call, cut: Option<u64>) -> Answer {
-    let (img, len) = (image.as_mut_ptr(), image.len());
-    let (mut address, mut size, mut made) = (0, 0, 0);
-    let number = unsafe {
-        match (call, cut) {
-            (Call::Alloc(n), None) => hitchsnow_blk_alloc(img, len, writable, n, &mut address, &mut size, &mut made),
-            (Call::Alloc(n), Some(k)) => hitchsnow_blk_alloc_cut(img, len, writable, n, k, &mut address, &mut size, &mut made),
-            (Call::Free(a, n), None) => hitchsnow_blk_free(img, len, writable, a, n, &mut made),
-            (Call::Free(a, n), Some(k)) => hitchsnow_blk_free_cut(img, len, writable, a, n, k, &mut made),
-        }
+    let done = match call {
+        Call::Alloc(size) => hitchsnow::blk_alloc(image, writable, size, cut),
+        Call::Free(address, size) => hitchsnow::blk_free(image, writable, address, size, cut).map(|made| (0, 0, made)),
     };
-    Answer { number, address, size, made }
+    match done {
+        Ok((address, size, made)) => Answer { number: 0, address, size, made },
+        Err(number) => Answer { number, address: 0, size: 0, made: 0 },
+    }
 }
 
 /// The number, nbfree and nffree.
 pub fn recount(image: &mut [u8]) -> (u32, u64, u64) {
-    let (mut nbfree, mut nffree) = (0, 0);
-    let number = unsafe { hitchsnow_recount(image.as_mut_ptr(), image.len(), true, &mut nbfree, &mut nffree) };
-    (number, nbfree, nffree)
+    hitchsnow::recount(image, true).map_or_else(|number| (number, 0, 0), |(nbfree, nffree)| (0, nbfree, nffree))
 }

@@ -34,36 +34,45 @@ impl Rule {
 pub struct Card {
     pub sblkno: u64,
     pub cblkno: u64,
+    pub iblkno: u64,
     pub dblkno: u64,
     pub ncg: u64,
     pub bsize: u64,
     pub fsize: u64,
     pub frag: u64,
+    pub ipg: u64,
     pub fpg: u64,
 }
 
-fn word(image: &[u8], at: usize) -> u32 {
-    u32::from_le_bytes(image[at..at + 4].try_into().unwrap())
+/// The number of so many bytes, at most 8.
+pub fn number(image: &[u8], at: usize, width: usize) -> u64 {
+    image[at..at + width].iter().rev().fold(0, |n, b| n << 8 | u64::from(*b))
 }
-fn put(image: &mut [u8], at: usize, bytes: &[u8]) {
-    image[at..at + bytes.len()].copy_from_slice(bytes);
+pub fn put_number(image: &mut [u8], at: usize, width: usize, n: u64) {
+    image[at..at + width].copy_from_slice(&n.to_le_bytes()[..width]);
+}
+pub fn word(image: &[u8], at: usize) -> u32 {
+    number(image, at, 4) as u32
+}
+fn put_word(image: &mut [u8], at: usize, n: u32) {
+    put_number(image, at, 4, n.into());
 }
 fn add_word(image: &mut [u8], at: usize, n: i32) {
     let sum = (word(image, at) as i32).wrapping_add(n);
-    put(image, at, &sum.to_le_bytes());
+    put_word(image, at, sum as u32);
 }
-fn long(image: &[u8], at: usize) -> i64 {
-    i64::from_le_bytes(image[at..at + 8].try_into().unwrap())
+pub fn long(image: &[u8], at: usize) -> i64 {
+    number(image, at, 8) as i64
 }
 fn add_long(image: &mut [u8], at: usize, n: i64) {
     let sum = long(image, at).wrapping_add(n);
-    put(image, at, &sum.to_le_bytes());
+    put_number(image, at, 8, sum as u64);
 }
 
 impl Card {
     pub fn read(image: &[u8]) -> Card {
         let at = |o: usize| u64::from(word(image, SUPER + o));
-        Card { sblkno: at(8), cblkno: at(12), dblkno: at(20), ncg: at(44), bsize: at(48), fsize: at(52), frag: at(56), fpg: at(188) }
+        Card { sblkno: at(8), cblkno: at(12), iblkno: at(16), dblkno: at(20), ncg: at(44), bsize: at(48), fsize: at(52), frag: at(56), ipg: at(184), fpg: at(188) }
     }
     fn group(&self, g: u64) -> usize {
         ((g * self.fpg + self.cblkno) * self.fsize) as usize
@@ -79,6 +88,12 @@ impl Card {
         let (at, bit) = self.bit(image, g, f);
         image[at] & bit != 0
     }
+    /// Whether n fragments from address a on lie in one group's ndblk and touch none that is reserved.
+    pub fn run_ok(&self, image: &[u8], a: u64, n: u64) -> bool {
+        let (g, f) = (a / self.fpg, a % self.fpg);
+        let first_reserved = if g == 0 { 0 } else { self.sblkno };
+        g < self.ncg && f + n <= self.ndblk(image, g) && (f >= self.dblkno || f + n <= first_reserved)
+    }
     /// A count past its edge: the volume is no longer sound.
     pub fn past_edge(&self, image: &[u8]) -> bool {
         let count = |at| !(-COUNT_EDGE..=COUNT_EDGE).contains(&(word(image, at) as i32));
@@ -87,12 +102,12 @@ impl Card {
     }
     pub fn set_counts(&self, image: &mut [u8], g: u64, nbfree: u32, nffree: u32) {
         let at = self.group(g);
-        put(image, at + 28, &nbfree.to_le_bytes());
-        put(image, at + 36, &nffree.to_le_bytes());
+        put_word(image, at + 28, nbfree);
+        put_word(image, at + 36, nffree);
     }
     pub fn set_totals(&self, image: &mut [u8], nbfree: u64, nffree: u64) {
-        put(image, SUPER + 1016, &nbfree.to_le_bytes());
-        put(image, SUPER + 1032, &nffree.to_le_bytes());
+        put_number(image, SUPER + 1016, 8, nbfree);
+        put_number(image, SUPER + 1032, 8, nffree);
     }
     /// The last group without its last n fragments.
     pub fn shorten(&self, image: &mut [u8], n: u64) {
@@ -105,7 +120,7 @@ impl Card {
             let (at, bit) = self.bit(image, g, f);
             image[at] &= !bit;
         }
-        put(image, self.group(g) + 20, &((ndblk - n) as u32).to_le_bytes());
+        put_word(image, self.group(g) + 20, (ndblk - n) as u32);
     }
     /// The blocks past the reserved ones with new free bits, and true counts.
     pub fn fill(&self, image: &mut [u8], mut free: impl FnMut(u64) -> u16) {
@@ -154,8 +169,7 @@ pub fn rule(card: &Card, image: &[u8], call: Call) -> Rule {
         return refused("run_over_blocks", 22, false);
     }
     let (g, f) = (a / card.fpg, a % card.fpg);
-    let first_reserved = if g == 0 { 0 } else { card.sblkno };
-    if g >= card.ncg || f + n > card.ndblk(image, g) || (f < card.dblkno && f + n > first_reserved) {
+    if !card.run_ok(image, a, n) {
         return refused("reserved_or_past_ndblk", 97, false);
     }
     if (f..f + n).any(|f| card.free(image, g, f)) {
@@ -205,7 +219,7 @@ pub fn recounted(card: &Card, before: &[u8]) -> (Vec<u8>, u64, u64) {
 /// The Rust opens a volume only where sbsize is fsize; the port does not ask.
 pub fn set_sbsize(image: &mut [u8]) {
     let fsize = word(image, SUPER + 52);
-    put(image, SUPER + 104, &fsize.to_le_bytes());
+    put_word(image, SUPER + 104, fsize);
 }
 
 /// The volume with one thing changed: what, whether the Rust opens it, what the port answers, and its bytes.
@@ -215,6 +229,8 @@ pub fn openings(image: &[u8]) -> Vec<(&'static str, bool, u32, Vec<u8>)> {
     let copy = ((last * card.fpg + card.sblkno) * card.fsize) as usize;
     let group = card.group(last);
     let reserved = card.bit(image, last, card.dblkno - 1);
+    let mut opened = image.to_vec();
+    opened[reserved.0] |= reserved.1;
     [
         ("superblock's magic 0", false, 97, SUPER + 1372, 0),
         ("last copy's magic 0", false, 97, copy + 1372, 0),
@@ -234,12 +250,12 @@ pub fn openings(image: &[u8]) -> Vec<(&'static str, bool, u32, Vec<u8>)> {
         ("last group's freeoff 2^31", true, 97, group + 96, 1 << 31),
         ("last group's nffree 2^31 - 9", true, 0, group + 36, COUNT_EDGE as u32),
         ("last group's nffree 2^31 - 8", true, 97, group + 36, COUNT_EDGE as u32 + 1),
-        ("reserved fragment free", true, 97, reserved.0 / 4 * 4, word(image, reserved.0 / 4 * 4) | u32::from(reserved.1) << (reserved.0 % 4 * 8)),
+        ("reserved fragment free", true, 97, reserved.0 / 4 * 4, word(&opened, reserved.0 / 4 * 4)),
     ]
     .into_iter()
     .map(|(what, rust, port, at, to)| {
         let mut bytes = image.to_vec();
-        put(&mut bytes, at, &to.to_le_bytes());
+        put_word(&mut bytes, at, to);
         (what, rust, port, bytes)
     })
     .collect()

@@ -1,7 +1,9 @@
-// 01's worked numbers, run: the map lines, the one that is not starred among them.
+// 01's worked numbers, run: the map lines, the one that is not starred among them, and the index past the last one.
 ghost use Prim.Native.Nat.{_<_};
 use bits::Found;
 use libc::STDOUT_FILENO;
+use mapping::Place;
+use volume::BlockIdx;
 
 fn digit(n: u8) -> u8
     requires { ⌜ n < 16 ⌝ }
@@ -53,6 +55,41 @@ fn write_loose(map: &[u8; 2]) {
     io::write_all(STDOUT_FILENO, b"\n");
 }
 
+// A position in a list of 512.
+fn write_position(n: u64) {
+    let text = [
+        digit((n / 100 % 10) as u8),
+        digit((n / 10 % 10) as u8),
+        digit((n % 10) as u8),
+    ];
+    io::write_all(STDOUT_FILENO, &text);
+}
+
+// The positions in the three lists above a block of the third zone.
+fn write_third(rest: u64) {
+    io::write_all(STDOUT_FILENO, b"third (");
+    write_position(rest / 262144);
+    io::write_all(STDOUT_FILENO, b",");
+    write_position(rest / 512 % 512);
+    io::write_all(STDOUT_FILENO, b",");
+    write_position(rest % 512);
+    io::write_all(STDOUT_FILENO, b")\n");
+}
+
+// Where an index leads at bsize 4,096: in the third zone, or nowhere.
+fn write_place(i: BlockIdx) {
+    match mapping::place_of(512, i) {
+        Place::Under { root, level, rest } => {
+            if (root == 14) & (level == 3) {
+                write_third(rest.0);
+            }
+        }
+        Place::Past => {
+            io::write_all(STDOUT_FILENO, b"none\n");
+        }
+    }
+}
+
 fn main() {
     let mut map = [0u8, 255u8];
     give(&mut map);
@@ -63,4 +100,8 @@ fn main() {
     write_loose(&map);
     io::write_all(STDOUT_FILENO, b"back 2 at 08: ");
     back(&mut map, 9);
+    io::write_all(STDOUT_FILENO, b"index 134,480,395: ");
+    write_place(BlockIdx(134480395));
+    io::write_all(STDOUT_FILENO, b"index 134,480,396: ");
+    write_place(BlockIdx(134480396));
 }
