@@ -27,7 +27,7 @@ use Rattle.inode_run.specs.declared.Found.the-variants as Found
 use Rattle.inode_run.specs.Judge.{ask, andThen}
 use Rattle.inode_run.specs.Find.{findInode, foundOf}
 use Rattle.inode_run.specs.Run.{runAt, readable}
-use Rattle.inode_run.proofs.FindLaws.{found-got}
+use Rattle.inode_run.proofs.FindLaws.{found-got, Named, find-named}
 use Rattle.inode_read.specs.Read.{Reaches, pieceOf}
 use Rattle.inode_read.proofs.ReachLaws.{run-reaches}
 use Rattle.dirblock.proofs.WriteLaws.{part-whole}
@@ -52,6 +52,23 @@ module _ (geo : Geometry) (img : List ℕ) (i : ℕ) where
     go : (o : Out Spot) → Found.No r ≡ foundOf o → Found.No r ≡ foundOf (andThen o (λ s. ask (isDir (s .shape)) NotDirectory (got s)))
     go (got s) e = absurd (let z : _≡_ {A = ℕ} 0 1 = cc in let y : ⊥ = omega arith in y)
     go (refused q) e = e
+
+-- the directory is an inode that is found
+pub dir-is : (geo : Geometry) (img : List ℕ) (i : ℕ) (s : Spot) → dirOf geo img i ≡ got s → (findInode geo img i ≡ got s) × (isDir (s .shape) ≡ true)
+unfolding dirOf
+dir-is geo img i s e = go (findInode geo img i) refl e
+  where
+    by : (t : Spot) (b : Bool) → isDir (t .shape) ≡ b → findInode geo img i ≡ got t → ask b NotDirectory (got t) ≡ got s → (findInode geo img i ≡ got s) × (isDir (s .shape) ≡ true)
+    by t true d f e = let q : t ≡ s = cc in (f ∙ ap got q, ap (λ (x : Spot). isDir (x .shape)) (sym q) ∙ d)
+    by t false d f e = absurd (let z : _≡_ {A = ℕ} 0 1 = cc in let y : ⊥ = omega arith in y)
+
+    go : (o : Out Spot) → findInode geo img i ≡ o → andThen o (λ x. ask (isDir (x .shape)) NotDirectory (got x)) ≡ got s → (findInode geo img i ≡ got s) × (isDir (s .shape) ≡ true)
+    go (got t) f e = by t (isDir (t .shape)) refl f e
+    go (refused r) f e = absurd (let z : _≡_ {A = ℕ} 0 1 = cc in let y : ⊥ = omega arith in y)
+
+-- its number is one of the volume's, and its record lies in the image
+pub dir-named : (geo : Geometry) (img : List ℕ) → Frame geo img → (i : ℕ) (s : Spot) → dirOf geo img i ≡ got s → Named geo img i s
+dir-named geo img fr i s e = find-named geo img fr i s (dir-is geo img i s e .0)
 
 -- ---- 512 bytes of a run
 

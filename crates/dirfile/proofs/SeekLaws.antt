@@ -30,6 +30,23 @@ module _ {A : Type 0} (f : ℕ → Sought A) where
   pub seek-next : (n k : ℕ) → k < n → f k ≡ nowhere → seekFrom f (n - k) k ≡ seekFrom f (n - (k + 1)) (k + 1)
   seek-next n k l e = seek-step n k l ∙ rw e
 
+-- what is found is found in one of the blocks
+pub record FoundIn {A : Type 0} (f : ℕ → Sought A) (n k : ℕ) (a : A) : Type 0 where
+  pub block : ℕ
+  pub first : k ≤ block
+  pub inside : block < k + n
+  pub is : f block ≡ here a
+
+pub seek-found : {A : Type 0} (f : ℕ → Sought A) (n k : ℕ) (a : A) → seekFrom f n k ≡ here a → FoundIn f n k a
+unfolding seekFrom
+seek-found f zero k a e = absurd (let z : _≡_ {A = ℕ} 0 1 = cc in let y : ⊥ = omega arith in y)
+seek-found {A} f (suc n) k a e = go (λ e. seek-found f n (k + 1) a e) (f k) refl e
+  where
+    go : (seekFrom f n (k + 1) ≡ here a → FoundIn f n (k + 1) a) → (x : Sought A) → f k ≡ x → orElse x (seekFrom f n (k + 1)) ≡ here a → FoundIn f (suc n) k a
+    go later (here b) h e = record { block = k; first = omega arith; inside = omega arith; is = h ∙ e }
+    go later nowhere h e = let r = later e in record { block = r .block; first = omega (arith, r .first); inside = omega (arith, r .inside); is = r .is }
+    go later hurt h e = absurd (let z : _≡_ {A = ℕ} 0 1 = cc in let y : ⊥ = omega arith in y)
+
 module _ {A : Type 0} (geo : Geometry) (at size : ℕ) (img : List ℕ) (f : ℕ → List ℕ → Sought A) where
   -- what block k says
   abbrev pub said : ℕ → Sought A
@@ -42,3 +59,12 @@ module _ {A : Type 0} (geo : Geometry) (at size : ℕ) (img : List ℕ) (f : ℕ
   pub seek-odd : (size % 512 ≡ 0 → ⊥) → seekDir geo at size img f ≡ hurt
   unfolding seekDir
   seek-odd h = rw (ne-eqb (size % 512) 0 h)
+
+  -- in a block that lies in the directory
+  pub dir-found : (a : A) → seekDir geo at size img f ≡ here a → (k : ℕ) × (k * 512 + 512 ≤ size) × (said k ≡ here a)
+  unfolding seekDir
+  dir-found a e = go (eqb (size % 512) 0) e
+    where
+      go : (b : Bool) → wholeOnly b (seekFrom said (size / 512) 0) ≡ here a → (k : ℕ) × (k * 512 + 512 ≤ size) × (said k ≡ here a)
+      go true e = let r = seek-found said (size / 512) 0 a e in (r .block, omega (arith, r .inside), r .is)
+      go false e = absurd (let z : _≡_ {A = ℕ} 0 1 = cc in let y : ⊥ = omega arith in y)

@@ -1,0 +1,2 @@
+pub mod OtherLaws
+pub mod Theorems
