@@ -56,30 +56,29 @@ shrunk-inside geo at new held = more (size-inside (geo .order) at new) (more (bl
 
 -- ---- the work: cut after any store, or refused, it leaves a volume laid out as it was
 
-module _ (geo : Geometry) (some : 0 < perList geo) (i : ℕ) (l : i < geo .ncg * geo .ipg) where
-  keeps-into : (s : Store) → StoreIn (Range (inodeAt geo i) 256) s → Keeps geo (store s)
-  keeps-into s o = keeps-store geo (λ _. s) (λ img fr. record-steady geo img fr i l o)
-
-  keeps-truncate : (s : Shape) (new : ℕ) → (new < s .size → keepOf geo new < zoneStart (perList geo) 3) → Keeps geo (truncateWork geo (inodeAt geo i) s new)
+-- of a record that may be stored into
+module _ (geo : Geometry) (some : 0 < perList geo) (at : ℕ) (into : (s : Store) → StoreIn (Range at 256) s → Keeps geo (store s)) where
+  keeps-truncate : (s : Shape) (new : ℕ) → (new < s .size → keepOf geo new < zoneStart (perList geo) 3) → Keeps geo (truncateWork geo at s new)
   unfolding truncateWork
   keeps-truncate s new k start img st =
       always-choose (ltb new (s .size))
-      (λ e. keeps-bind geo (keeps-shrink geo (inodeAt geo i) s some (keepOf geo new) (k (ltb-true _ _ e))) (λ h. keeps-into (shrunkStore geo (inodeAt geo i) new h) (shrunk-inside geo (inodeAt geo i) new h)) start img st)
-      (λ e. keeps-into (sizeWrite (geo .order) (inodeAt geo i) new ∷ []) (more (size-inside (geo .order) (inodeAt geo i) new) none) start img st)
+      (λ e. keeps-bind geo (keeps-shrink geo at s some (keepOf geo new) (k (ltb-true _ _ e))) (λ h. into (shrunkStore geo at new h) (shrunk-inside geo at new h)) start img st)
+      (λ e. into (sizeWrite (geo .order) at new ∷ []) (more (size-inside (geo .order) at new) none) start img st)
 
-  keeps-judged : (s : Shape) (new : ℕ) → Keeps geo (judgedWork geo (inodeAt geo i) s new)
+  pub keeps-judged : (s : Shape) (new : ℕ) → Keeps geo (judgedWork geo at s new)
   unfolding judgedWork
-  keeps-judged s new = keeps-read geo (λ x. given (truncateJudged geo (inodeAt geo i) s new x) (λ _. truncateWork geo (inodeAt geo i) s new)) (λ x. go x (truncateJudged geo (inodeAt geo i) s new x) refl)
+  keeps-judged s new = keeps-read geo (λ x. given (truncateJudged geo at s new x) (λ _. truncateWork geo at s new)) (λ x. go x (truncateJudged geo at s new x) refl)
     where
-      go : (x : List ℕ) (o : Out (Unit {0})) → truncateJudged geo (inodeAt geo i) s new x ≡ o → Keeps geo (given o (λ _. truncateWork geo (inodeAt geo i) s new))
-      go x (got u) e = keeps-truncate s new (judged-keep geo (inodeAt geo i) s new x e)
+      go : (x : List ℕ) (o : Out (Unit {0})) → truncateJudged geo at s new x ≡ o → Keeps geo (given o (λ _. truncateWork geo at s new))
+      go x (got u) e = keeps-truncate s new (judged-keep geo at s new x e)
       go x (refused r) e = keeps-refuse geo (Unit {0}) r
 
 -- of an inode that its number names
 pub truncate-keeps : (geo : Geometry) (img : List ℕ) → Frame geo img → (i : ℕ) (s : Spot) → findInode geo img i ≡ got s → (new : ℕ) → Always (Steady geo img) (judgedWork geo (s .at) (s .shape) new) img
 truncate-keeps geo img fr i s e new =
     let n = find-named geo img fr i s e in
-    rw (n .place .is) (keeps-judged geo (per-some geo img fr) i (number-is geo i (n .number) .1) (s .shape) new img img (steady-refl geo img fr))
+    let l = number-is geo i (n .number) .1 in
+    rw (n .place .is) (keeps-judged geo (per-some geo img fr) (inodeAt geo i) (λ w o. keeps-store geo (λ _. w) (λ x f. record-steady geo x f i l o)) (s .shape) new img img (steady-refl geo img fr))
 
 -- the public call, on a volume that is taken
 pub call-keeps : (vol : Volume) (i new : ℕ) (img : List ℕ) (geo : Geometry) → takenOf img ≡ Sound geo → Always (Steady geo img) (inodeTruncate vol i new) img

@@ -22,7 +22,7 @@ use volume::InodeNum;
 use volume::Volume;
 
 // Whether a shrinking file keeps no block of the triple zone.
-fn ends_before(geo: Geometry, new: u64) -> bool
+pub fn ends_before(geo: Geometry, new: u64) -> bool
     requires { ⌜ Sized geo ⌝ }
     ensures { λ r. ⌜ r ≡ ltb (keepOf geo new) (zoneStart (perList geo) 3) ⌝ }
 {
@@ -51,7 +51,7 @@ fn judge(img: &[u8], geo: Geometry, at: usize, s: Shape, new: u64) -> Growth
 }
 
 // The call on an inode that is found.
-fn truncate_found(img: &mut [u8], geo: Geometry, at: usize, s: Shape, new: u64) -> Truncated
+pub fn truncate_found(img: &mut [u8], geo: Geometry, at: usize, s: Shape, new: u64) -> Truncated
     requires { ⌜ Frame geo (now img) × (at + 256 ≤ length (now img)) ⌝ }
     ensures { λ r. ⌜ (now (img .exit), truncatedOut r) ≡ leaves (judgedWork geo at s new) (now (img .entry)) ⌝ }
 {
