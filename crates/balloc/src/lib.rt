@@ -85,7 +85,7 @@ pub fn blk_free_cut(img: &mut [u8], vol: Volume, a: FragNum, size: u64, k: u64) 
             if !vol.writable {
                 return Freed::No(Refusal::ReadOnly);
             }
-            let r = balloc_take::blk_take(img, geo, a, size, k);
+            let r = balloc_back::blk_take(img, geo, a, size, k);
             answer_freed(r, vol)
         }
         Taken::Unsound => Freed::No(Refusal::Damaged),

@@ -22,7 +22,7 @@ fn count_group(img: &[u8], geo: Geometry, g: u32) -> Fresh
     let r = frame::group_at(img, geo, g);
     let at = frame::cg_addr(img, geo, g) + r.freeoff as usize;
     let frag = geo.frag;
-    let found = bits::scan::count_map(img, at, frag, r.ndblk as usize);
+    let found = bits_count::count_map(img, at, frag, r.ndblk as usize);
     let in_blocks = (frag as usize) * found.blocks;
     Fresh {
         nbfree: found.blocks as u64,

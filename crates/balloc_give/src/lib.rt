@@ -40,7 +40,7 @@ fn blk_in_group(img: &[u8], geo: Geometry, g: u32) -> Found
         let r = frame::group_at(img, geo, g);
         let at = frame::cg_addr(img, geo, g) + r.freeoff as usize;
         let nb = r.ndblk / geo.frag;
-        return bits::scan::first_free_block(img, at, geo.frag, nb as usize);
+        return bits_find::first_free_block(img, at, geo.frag, nb as usize);
     }
     Found::Nothing
 }

@@ -1,13 +1,11 @@
 // balloc.rs, cg_*: the rules of the free map and of the inode map, which are bytes of a lent slice that begin at `at`.
 ghost use mathlib.Core.Path.{_≡_};
 ghost use mathlib.Core.Bool.{true};
-ghost use Prim.Native.Nat.{_+_, _-_, _*_, _/_, _%_, _^_, _<_, _≤_};
+ghost use Prim.Native.Nat.{_+_, _-_, _*_, _/_, _%_, _^_, _<_, _≤_, min};
 ghost use lib.Dec.{eqb};
 ghost use lib.ListN.{length, getD};
 ghost use Rattle.bits.specs.Upto.{asBit};
 ghost use Rattle.bits.specs.Bits.{isFrag, fragFree, bitsAre, blockFree, blockFull, putBits, putBitsAt};
-
-pub mod scan;
 
 // The number that a scan finds.
 pub enum Found {
@@ -49,20 +47,20 @@ pub fn isfullblock(img: &[u8], at: usize, frag: u32, h: usize) -> bool
     }
 }
 
-fn wide(x: u8) -> usize
+pub fn wide(x: u8) -> usize
     ensures { λ r. ⌜ r ≡ x ⌝ }
 {
     x as usize
 }
 
-fn two_to(n: usize) -> usize
+pub fn two_to(n: usize) -> usize
     requires { ⌜ n ≤ 8 ⌝ }
     ensures { λ r. ⌜ (r ≡ 2 ^ n) × (1 ≤ r) × (r ≤ 256) ⌝ }
 {
     1usize << n
 }
 
-fn as_bit(free: bool) -> usize
+pub fn as_bit(free: bool) -> usize
     ensures { λ r. ⌜ (r ≡ asBit free) × (r < 2) ⌝ }
 {
     if free { 1 } else { 0 }
@@ -188,4 +186,18 @@ pub fn all_free(x: u8, s: usize, n: usize) -> bool
 {
     let run = two_to(n);
     wide(x >> s) % run == run - 1
+}
+
+pub fn least(a: usize, b: usize) -> usize
+    ensures { λ r. ⌜ r ≡ min a b ⌝ }
+{
+    if a < b { a } else { b }
+}
+
+// How many blocks stand in a byte.
+pub fn per_byte(frag: u32) -> usize
+    requires { ⌜ isFrag frag ≡ true ⌝ }
+    ensures { λ r. ⌜ (frag * r ≡ 8) × (1 ≤ r) × (r ≤ 8) ⌝ }
+{
+    8 / (frag as usize)
 }

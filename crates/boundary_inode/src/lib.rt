@@ -76,7 +76,7 @@ pub extern "C" fn hitchsnow_inode_get_block_size(
 ) -> u32
     ensures { λ r. ⌜ (r, now (size .exit)) ≡ sizeWords (sizeAnswer (inodeGetBlockSize (now (img .entry)) inr i)) ⌝ }
 {
-    match inode_read::inode_get_block_size(img, InodeNum(inr), BlockIdx(i)) {
+    match inode_block::inode_get_block_size(img, InodeNum(inr), BlockIdx(i)) {
         BlockSize::Bytes(n) => {
             *size = n;
             0
@@ -97,7 +97,7 @@ pub extern "C" fn hitchsnow_inode_resolve_block(
 ) -> u32
     ensures { λ r. ⌜ (r, now (address .exit)) ≡ resolvedWords (resolvedAnswer (inodeResolveBlock (now (img .entry)) inr i)) ⌝ }
 {
-    match inode_read::inode_resolve_block(img, InodeNum(inr), BlockIdx(i)) {
+    match inode_block::inode_resolve_block(img, InodeNum(inr), BlockIdx(i)) {
         Resolved::At(a) => {
             *address = a.0;
             0

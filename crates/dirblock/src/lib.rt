@@ -1,13 +1,9 @@
-// dir.rs, the part on blocks: one directory block, walked by a cursor, searched, linked into, unlinked from, made.
+// dir.rs, the part on blocks: one directory block and its records, walked by a cursor.
 ghost use mathlib.Core.Path.{_≡_};
 ghost use Prim.Native.Nat.{_+_, _-_, _≤_, _<_};
 ghost use lib.ListN.{length};
 ghost use Rattle.dirblock.specs.Record.{smallestRead, smallestNew, kindKnown, entryAt, nameAt, judged, recAt, slack};
 use field::Order;
-
-pub mod link;
-pub mod search;
-pub mod write;
 
 // dir.rs: Header, struct direct without its name, which is a part of the block.
 pub struct Entry {
@@ -74,7 +70,7 @@ pub fn smallest_new(n: u8) -> u16
 }
 
 // What a record has beyond its smallest length.
-fn slack_of(e: Entry) -> u16
+pub fn slack_of(e: Entry) -> u16
     requires { ⌜ smallestRead (e .namelen) ≤ e .reclen ⌝ }
     ensures { λ r. ⌜ r ≡ slack e ⌝ }
 {
@@ -95,7 +91,7 @@ fn left_of(n: usize, pos: usize) -> usize
 }
 
 // dir.rs: Header::parse, the fields.
-fn entry_at(o: Order, block: &[u8], pos: usize) -> Entry
+pub fn entry_at(o: Order, block: &[u8], pos: usize) -> Entry
     requires { ⌜ pos + 8 ≤ length (now block) ⌝ }
     ensures { λ r. ⌜ r ≡ entryAt o pos (now (block .entry)) ⌝ }
 {

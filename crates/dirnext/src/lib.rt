@@ -45,7 +45,7 @@ fn listed_from(o: Order, block: &[u8], from: usize) -> Find
         let rec = dirblock::rec_at(o, block, pos);
         match rec {
             Rec::Used(e) => {
-                if dirblock::search::is_listed(e) {
+                if dirblock_search::is_listed(e) {
                     return Find::At(Spot {
                         pos,
                         prev,

@@ -41,7 +41,7 @@ fn is_other(block: &[u8], pos: usize, e: Entry) -> bool
     requires { ⌜ pos + 8 + e .namelen ≤ length (now block) ⌝ }
     ensures { λ r. ⌜ r ≡ stays (now (block .entry)) (record { pos = pos; entry = e }) ⌝ }
 {
-    dirblock::search::is_listed(e) & !((e.kind == 4) & is_dots(block, pos, e))
+    dirblock_search::is_listed(e) & !((e.kind == 4) & is_dots(block, pos, e))
 }
 
 // The first record of a block that is neither.

@@ -51,7 +51,7 @@ fn look_block(img: &[u8], geo: Geometry, at: usize, size: u64, k: u64, name: &[u
 {
     let o = geo.order;
     match dirfile::block_at(img, geo, at, size, k) {
-        BlockAt::At(p) => match dirblock::search::find_in(o, &img[p..p + 512], name, false) {
+        BlockAt::At(p) => match dirblock_search::find_in(o, &img[p..p + 512], name, false) {
             Find::At(s) => Looked::At(s.entry.inr),
             Find::Absent => Looked::Absent,
             Find::Bad => Looked::Bad,
@@ -90,7 +90,7 @@ pub fn lookup_dir(img: &[u8], geo: Geometry, at: usize, size: u64, name: &[u8]) 
 fn unlinked_in(o: Order, block: &[u8], name: &[u8]) -> Unlinked
     ensures { λ r. ⌜ r ≡ unlinkIn o (now (block .entry)) (now (name .entry)) .1 ⌝ }
 {
-    match dirblock::search::find_in(o, block, name, true) {
+    match dirblock_search::find_in(o, block, name, true) {
         Find::At(s) => {
             if s.pos == 0 {
                 return match dirblock::rec_at(o, block, s.entry.reclen as usize) {
@@ -165,7 +165,7 @@ fn room_block(img: &[u8], geo: Geometry, at: usize, size: u64, k: u64, n: u8) ->
 {
     let o = geo.order;
     match dirfile::block_at(img, geo, at, size, k) {
-        BlockAt::At(p) => match dirblock::search::room_in(o, &img[p..p + 512], n) {
+        BlockAt::At(p) => match dirblock_search::room_in(o, &img[p..p + 512], n) {
             Room::At(pos, e) => Space::At(k),
             Room::Full => Space::Full,
             Room::Bad => Space::Bad,

@@ -40,7 +40,7 @@ pub fn link_block(
     if !dirfile::read_block(img, geo, at, size, k, &mut block) {
         return Written::No(Refusal::Damaged);
     }
-    dirblock::link::link_in(o, &mut block, inr, kind, name);
+    dirblock_link::link_in(o, &mut block, inr, kind, name);
     inode_write::write_at(img, geo, at, size, k * 512, &block)
 }
 
@@ -61,7 +61,7 @@ pub fn unlink_block(
     if !dirfile::read_block(img, geo, at, size, k, &mut block) {
         return Written::No(Refusal::Damaged);
     }
-    dirblock::link::unlink_in(o, &mut block, name);
+    dirblock_link::unlink_in(o, &mut block, name);
     inode_write::write_at(img, geo, at, size, k * 512, &block)
 }
 
@@ -76,7 +76,7 @@ fn sole_block(o: Order, block: &mut [u8], inr: u32, kind: u8, name: &[u8])
         kind,
         namelen: name.len() as u8,
     };
-    dirblock::write::put_rec(o, block, 0, e, name);
+    dirblock_write::put_rec(o, block, 0, e, name);
 }
 
 // inode_truncate in the work, of an inode that is found: what it refuses is damage.

@@ -55,7 +55,7 @@ fn inode_in_group(img: &[u8], geo: Geometry, g: u32) -> Found
     let n = frame::group_count(img, geo, g, Count::Nifree);
     if (0 < n) & (n < 2147483648) {
         let at = used_at(img, geo, g);
-        return bits::scan::first_clear_bit(img, at, geo.ipg as usize);
+        return bits_find::first_clear_bit(img, at, geo.ipg as usize);
     }
     Found::Nothing
 }

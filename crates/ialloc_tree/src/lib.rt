@@ -43,7 +43,7 @@ pub fn free_block(
         return Freed::No(Refusal::Damaged);
     }
     match inode::get_block_size(geo, s.size, i) {
-        Held::Bytes(n) => match balloc_take::blk_take(img, geo, a, n, 18446744073709551615) {
+        Held::Bytes(n) => match balloc_back::blk_take(img, geo, a, n, 18446744073709551615) {
             Took::Made(m) => Freed::Held(fewer(held, n / 512)),
             Took::No(e) => Freed::No(Refusal::Damaged),
         },
@@ -56,7 +56,7 @@ pub fn free_own(img: &mut [u8], geo: Geometry, a: FragNum, held: u64) -> Freed
     requires { ⌜ Frame geo (now img) ⌝ }
     ensures { λ r. ⌜ (now (img .exit), freedOut r) ≡ leaves (freeOwn geo (a .0) held) (now (img .entry)) ⌝ }
 {
-    match balloc_take::blk_take(img, geo, a, geo.bsize as u64, 18446744073709551615) {
+    match balloc_back::blk_take(img, geo, a, geo.bsize as u64, 18446744073709551615) {
         Took::Made(m) => Freed::Held(held),
         Took::No(e) => Freed::No(Refusal::Damaged),
     }

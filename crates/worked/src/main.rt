@@ -25,7 +25,7 @@ fn write_map(map: &[u8; 2]) {
 
 // A block given of a map with 8 fragments to a block, if there is one.
 fn give(map: &mut [u8; 2]) {
-    match bits::scan::first_free_block(map, 0, 8, 2) {
+    match bits_find::first_free_block(map, 0, 8, 2) {
         Found::At(h) => {
             if h < 2 {
                 bits::setblock(map, 0, 8, h, false);
@@ -50,7 +50,7 @@ fn back(map: &mut [u8; 2], f: usize)
 }
 
 fn write_loose(map: &[u8; 2]) {
-    let count = bits::scan::count_map(map, 0, 8, 16);
+    let count = bits_count::count_map(map, 0, 8, 16);
     write_byte(((count.frags - 8 * count.blocks) % 256) as u8);
     io::write_all(STDOUT_FILENO, b"\n");
 }

@@ -4,7 +4,7 @@ use Rattle.balloc_take.proofs.counts_at.Statement.{statement}
 use Rattle.balloc_take.proofs.counts_at.Tie as tie
 
 returns : tie.Need-returns
-returns c = cc
+returns c = rw (c .read-counts .ensures, c .before .cg-addr .ensures .0)
 
 pub counts-at-spec : {M : Type 1} → statement M
 counts-at-spec =

@@ -6,7 +6,7 @@ use Rattle.dirblock.proofs.entry_at.Tie as tie
 
 returns : tie.Need-returns
 unfolding entryAt
-returns c = cc
+returns c = rw (c .before .before .before .get-u32 .ensures, c .before .before .get-u16 .ensures, c .before .get-u8 .ensures, c .get-u82 .ensures)
 
 pub entry-at-spec : {M : Type 1} → statement M
 entry-at-spec =

@@ -5,10 +5,10 @@ use Rattle.field.proofs.put_u32.Statement.{statement}
 use Rattle.field.proofs.put_u32.Tie as tie
 
 returns : tie.Need-returns
-returns c = rw (putNum-little (c .before .before .before .before .before .before .before .before .enum-told .given .1) 2 2) (cc)
+returns c = rw (putNum-little (c .before .before .before .before .before .before .before .before .enum-told .given .1) 2 2) (rw (c .before .before .before .before .before .before .put-u16 .ensures) at (c .before .before .put-u162 .ensures))
 
 returns-2 : tie.Need-returns-2
-returns-2 c = rw (putNum-big (c .before .before .before .before .before .before .before .before .enum-told2 .given .1) 2 2) (cc)
+returns-2 c = rw (putNum-big (c .before .before .before .before .before .before .before .before .enum-told2 .given .1) 2 2) (rw (c .before .before .before .before .before .before .put-u163 .ensures) at (c .before .before .put-u164 .ensures))
 
 pub put-u32-spec : {M : Type 1} → statement M
 put-u32-spec =

@@ -6,7 +6,7 @@ use Rattle.sound.proofs.counts_ok.Tie as tie
 
 returns : tie.Need-returns
 unfolding countsOk
-returns c = cc
+returns c = rw (c .before .before .before .before .count-within .ensures, c .before .before .before .before .before .read-count .ensures, c .before .before .count-within2 .ensures, c .before .before .before .read-count2 .ensures, c .count-within3 .ensures, c .before .read-count3 .ensures)
 
 pub counts-ok-spec : {M : Type 1} → statement M
 counts-ok-spec =

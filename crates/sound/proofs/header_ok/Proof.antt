@@ -12,7 +12,7 @@ bytes-of-requires c κs = c .before .before .before .before .before .before .bef
 
 returns : tie.Need-returns
 unfolding headerOk
-returns c = cc
+returns c = rw (c .before .before .before .before .before .before .before .before .before .before .before .product .ensures .0, c .bytes-of .ensures .0)
 
 pub header-ok-spec : {M : Type 1} → statement M
 header-ok-spec =

@@ -14,7 +14,7 @@ clear-bits-requires-2 c κs = let a = c .before .before .before .before .args in
 
 returns : tie.Need-returns
 unfolding mapOk
-returns c = cc
+returns c = rw (c .before .before .clear-bits .ensures, c .clear-bits2 .ensures, c .before .before .before .reserved-from .ensures)
 
 pub map-ok-spec : {M : Type 1} → statement M
 map-ok-spec =

@@ -6,7 +6,7 @@ use Rattle.sound.proofs.places_ok.Tie as tie
 
 returns : tie.Need-returns
 unfolding placesOk
-returns c = cc
+returns c = rw (c .before .before .before .before .before .bytes-of .ensures .0, c .before .before .bytes-of2 .ensures .0, c .before .bytes-of3 .ensures .0, c .bytes-of4 .ensures .0)
 
 pub places-ok-spec : {M : Type 1} → statement M
 places-ok-spec =

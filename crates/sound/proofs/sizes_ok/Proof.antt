@@ -6,7 +6,7 @@ use Rattle.sound.proofs.sizes_ok.Tie as tie
 
 returns : tie.Need-returns
 unfolding sizesOk
-returns c = cc
+returns c = rw (c .before .before .before .before .before .before .before .before .before .before .is-block-size .ensures, c .before .before .before .before .before .before .before .before .before .is-frag .ensures, c .before .before .before .before .before .before .before .before .product .ensures .0, c .before .divides .ensures, c .product2 .ensures .0)
 
 pub sizes-ok-spec : {M : Type 1} → statement M
 sizes-ok-spec =

@@ -6,7 +6,7 @@ use Rattle.sound.proofs.super_ok.Tie as tie
 
 returns : tie.Need-returns
 unfolding superOk
-returns c = cc
+returns c = rw (c .before .magic .ensures, c .totals-ok .ensures)
 
 pub super-ok-spec : {M : Type 1} → statement M
 super-ok-spec =

@@ -6,7 +6,7 @@ use Rattle.volume.proofs.group_magic.Tie as tie
 
 returns : tie.Need-returns
 unfolding groupMagicAt
-returns c = cc
+returns c = c .get-u32 .ensures
 
 pub group-magic-spec : {M : Type 1} → statement M
 group-magic-spec =

@@ -1,6 +1,6 @@
 -- `ino_to_fso` meets its contract. Assumes nothing.
 use borrow.Author.Needs.{needs}
-use mathlib.Core.Path.{_≡_}
+use mathlib.Core.Path.{_≡_, sym}
 use Prim.Native.Nat.{_/_}
 use native.Mathlib.Omega.{arith}
 use native.Mathlib.Nat.{mod-le}
@@ -21,11 +21,11 @@ mul-result c = let s = c .before .before .args in omega (arith, mod-le (s .inr .
 add-result : tie.Need-add-result
 add-result c =
     let s = c .before .before .args in
-    let e : c .frag-at .result ≡ byteAt (s .geo) (s .inr .0 / s .geo .ipg) (s .geo .iblkno) = cc in
+    let e : c .frag-at .result ≡ byteAt (s .geo) (s .inr .0 / s .geo .ipg) (s .geo .iblkno) = rw (c .before .ino-to-cg .ensures) at (c .frag-at .ensures) in
     omega (arith, inodeAt-eq (s .geo) (s .inr .0))
 
 returns : tie.Need-returns
-returns c = let s = c .before .before .args in cc (inodeAt-eq (s .geo) (s .inr .0))
+returns c = let s = c .before .before .args in rw (c .frag-at .ensures, c .before .ino-to-cg .ensures) (sym (inodeAt-eq (s .geo) (s .inr .0)))
 
 pub ino-to-fso-spec : {M : Type 1} → statement M
 ino-to-fso-spec =

@@ -6,7 +6,7 @@ use Rattle.volume.proofs.magic.Tie as tie
 
 returns : tie.Need-returns
 unfolding magicAt
-returns c = cc
+returns c = c .get-u32 .ensures
 
 pub magic-spec : {M : Type 1} → statement M
 magic-spec =

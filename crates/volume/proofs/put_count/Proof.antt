@@ -6,7 +6,7 @@ use Rattle.volume.proofs.put_count.Tie as tie
 
 returns : tie.Need-returns
 unfolding putCount
-returns c = cc
+returns c = rw (c .before .before .before .count-place .ensures .0) at (c .before .before .put-u32 .ensures)
 
 pub put-count-spec : {M : Type 1} → statement M
 put-count-spec =

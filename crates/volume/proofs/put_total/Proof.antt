@@ -6,7 +6,7 @@ use Rattle.volume.proofs.put_total.Tie as tie
 
 returns : tie.Need-returns
 unfolding putTotal
-returns c = cc
+returns c = rw (c .before .before .before .total-place .ensures .0) at (c .before .before .put-u64 .ensures)
 
 pub put-total-spec : {M : Type 1} → statement M
 put-total-spec =

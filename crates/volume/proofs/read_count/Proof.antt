@@ -6,7 +6,7 @@ use Rattle.volume.proofs.read_count.Tie as tie
 
 returns : tie.Need-returns
 unfolding countAt
-returns c = cc
+returns c = rw (c .get-u32 .ensures, c .before .count-place .ensures .0)
 
 pub read-count-spec : {M : Type 1} → statement M
 read-count-spec =

@@ -4,7 +4,7 @@ use Rattle.volume.proofs.read_counts.Statement.{statement}
 use Rattle.volume.proofs.read_counts.Tie as tie
 
 returns : tie.Need-returns
-returns c = cc
+returns c = rw (c .before .before .read-count .ensures, c .before .read-count2 .ensures, c .read-count3 .ensures)
 
 pub read-counts-spec : {M : Type 1} → statement M
 read-counts-spec =

@@ -6,7 +6,7 @@ use Rattle.volume.proofs.read_total.Tie as tie
 
 returns : tie.Need-returns
 unfolding totalAt
-returns c = cc
+returns c = rw (c .get-u64 .ensures, c .before .total-place .ensures .0)
 
 pub read-total-spec : {M : Type 1} → statement M
 read-total-spec =

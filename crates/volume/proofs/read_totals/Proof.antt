@@ -4,7 +4,7 @@ use Rattle.volume.proofs.read_totals.Statement.{statement}
 use Rattle.volume.proofs.read_totals.Tie as tie
 
 returns : tie.Need-returns
-returns c = cc
+returns c = rw (c .before .before .read-total .ensures, c .before .read-total2 .ensures, c .read-total3 .ensures)
 
 pub read-totals-spec : {M : Type 1} → statement M
 read-totals-spec =

@@ -4,7 +4,7 @@ use Rattle.balloc_take.proofs.fits.block_fits.Statement.{statement}
 use Rattle.balloc_take.proofs.fits.block_fits.Tie as tie
 
 returns : tie.Need-returns
-returns c = cc
+returns c = rw (c .before .rises-count .ensures, c .rises-total .ensures)
 
 pub block-fits-spec : {M : Type 1} → statement M
 block-fits-spec =

@@ -4,7 +4,7 @@ use Rattle.balloc_take.proofs.fits.frags_fit.Statement.{statement}
 use Rattle.balloc_take.proofs.fits.frags_fit.Tie as tie
 
 returns : tie.Need-returns
-returns c = cc
+returns c = rw (c .before .rises-count .ensures, c .rises-total .ensures)
 
 pub frags-fit-spec : {M : Type 1} → statement M
 frags-fit-spec =

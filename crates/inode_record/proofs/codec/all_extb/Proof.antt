@@ -6,7 +6,7 @@ use Rattle.inode_record.proofs.codec.all_extb.Tie as tie
 
 returns : tie.Need-returns
 unfolding listed
-returns c = cc
+returns c = rw (c .before .read-extb .ensures, c .read-extb2 .ensures)
 
 pub all-extb-spec : {M : Type 1} → statement M
 all-extb-spec =

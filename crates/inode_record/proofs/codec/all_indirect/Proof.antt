@@ -6,7 +6,7 @@ use Rattle.inode_record.proofs.codec.all_indirect.Tie as tie
 
 returns : tie.Need-returns
 unfolding listed
-returns c = cc
+returns c = rw (c .before .before .read-address .ensures, c .before .read-address2 .ensures, c .read-address3 .ensures)
 
 pub all-indirect-spec : {M : Type 1} → statement M
 all-indirect-spec =

@@ -6,7 +6,7 @@ use Rattle.inode_record.proofs.codec.all_spare.Tie as tie
 
 returns : tie.Need-returns
 unfolding listed spareAt
-returns c = cc
+returns c = rw (c .before .get-u32 .ensures, c .get-u322 .ensures)
 
 pub all-spare-spec : {M : Type 1} → statement M
 all-spare-spec =
