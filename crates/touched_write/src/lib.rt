@@ -1,0 +1,1 @@
+// Theorems about the bytes that writing to a file may change; no code.

@@ -1,0 +1,1 @@
+// Theorems about what is read after a write to a file; no code.
