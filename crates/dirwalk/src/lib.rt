@@ -159,7 +159,7 @@ pub fn find_dir(img: &[u8], geo: Geometry, at: usize, size: u64, name: &[u8]) ->
 }
 
 // The search for room in block k.
-fn room_block(img: &[u8], geo: Geometry, at: usize, size: u64, k: u64, n: u8) -> Space
+pub fn room_block(img: &[u8], geo: Geometry, at: usize, size: u64, k: u64, n: u8) -> Space
     requires { ⌜ Frame geo (now img) × (at + 256 ≤ length (now img)) × (k * 512 + 512 ≤ size) ⌝ }
     ensures { λ r. ⌜ spaceOut r ≡ inBlock (dirBlock geo at size (now (img .entry)) k) (λ b. roomyIn k (roomIn (geo .order) b n)) ⌝ }
 {

@@ -1,0 +1,1 @@
+// Laws of a public call that is judged whole before it works; no code.

@@ -1,0 +1,3 @@
+pub mod MakeLaws
+pub mod PassedLaws
+pub mod Theorems

@@ -1,0 +1,2 @@
+pub mod RenameLaws
+pub mod Theorems

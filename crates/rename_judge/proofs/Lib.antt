@@ -1,0 +1,3 @@
+pub mod RenameLaws
+pub mod VerdictLaws
+pub mod ToldLaws

@@ -1,0 +1,2 @@
+pub mod RmdirLaws
+pub mod Theorems

@@ -1,0 +1,4 @@
+pub mod StepLaws
+pub mod RmdirLaws
+pub mod Theorems
+pub mod PassLaws
