@@ -190,7 +190,7 @@ pub fn way(card: &Card, image: &[u8], ask: Ask) -> String {
 }
 
 /// The time that the Rust's SystemTime makes of a stored pair; none where it panics.
-fn carried((s, ns): (i64, u32)) -> Option<(i64, u32)> {
+pub fn carried((s, ns): (i64, u32)) -> Option<(i64, u32)> {
     let (more, rest) = (i128::from(ns / 1_000_000_000), ns % 1_000_000_000);
     let secs = i128::from(s.checked_abs()?) + more;
     let least = s < 0 && secs == 1 << 63 && rest == 0;

@@ -23,8 +23,8 @@ fn pair(t: SystemTime) -> [u64; 2] {
     [if negative { d.as_secs().wrapping_neg() } else { d.as_secs() }, d.subsec_nanos().into()]
 }
 
-fn words(a: InodeAttr) -> Vec<u64> {
-    let kind = match a.kind {
+pub fn kind_number(kind: InodeType) -> u64 {
+    match kind {
         InodeType::NamedPipe => 1,
         InodeType::CharDevice => 2,
         InodeType::Directory => 4,
@@ -32,8 +32,17 @@ fn words(a: InodeAttr) -> Vec<u64> {
         InodeType::RegularFile => 8,
         InodeType::Symlink => 10,
         InodeType::Socket => 12,
-    };
-    let first = [a.inr.get64(), kind, a.perm.into(), a.size, a.blocks];
+    }
+}
+
+pub fn kind_of(number: u16) -> InodeType {
+    use InodeType::*;
+    let all = [NamedPipe, CharDevice, Directory, BlockDevice, RegularFile, Symlink, Socket];
+    all.into_iter().find(|&k| kind_number(k) == number.into()).expect("a kind's number")
+}
+
+pub fn words(a: InodeAttr) -> Vec<u64> {
+    let first = [a.inr.get64(), kind_number(a.kind), a.perm.into(), a.size, a.blocks];
     let times = [a.atime, a.mtime, a.ctime, a.btime].map(pair).concat();
     let last = [a.uid, a.gid, a.gen, a.blksize, a.flags, a.kernflags, a.extsize].map(u64::from);
     [&first[..], &times, &[a.nlink.into()], &last].concat()

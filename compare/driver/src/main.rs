@@ -1,10 +1,15 @@
 //! The calls of the port beside the Rust's. Of the block calls the same number, answer, image and number of stores after every call,
 //! and after every call cut short. Where the two may part, a rule names it: a function of the volume and of the call.
+mod account;
+mod acts;
+mod clock;
+mod dir_account;
 mod image;
 mod inode_rules;
 mod inodes;
 mod port;
 mod rules;
+mod smallest;
 
 use image::{Image, Shared};
 use rufs::{BlockReader, Ufs};
@@ -268,7 +273,8 @@ fn vary(r: &mut Random, bytes: &mut [u8]) {
     }
 }
 
-fn run(count: u64, seed: u64, paths: &[String]) -> Result<(), String> {
+/// `only` leaves the block calls and the questions to inodes out.
+fn run(count: u64, seed: u64, only: bool, paths: &[String]) -> Result<(), String> {
     let mut r = Random(seed);
     let mut total: BTreeMap<String, u64> = BTreeMap::new();
     let mut smallest: BTreeMap<String, (usize, u64, u64, String)> = BTreeMap::new();
@@ -291,14 +297,17 @@ fn run(count: u64, seed: u64, paths: &[String]) -> Result<(), String> {
                 if is != (rust, port) {
                     return Err(format!("{name}, opened with {what}: (the Rust opens it, the port's number) is {is:?}, not {:?}", (rust, port)));
                 }
-                if port == 97 && !inodes::all_refused(&changed) {
-                    return Err(format!("{name}, opened with {what}: a reading call does not answer 97"));
+                if port == 97 && !(inodes::all_refused(&changed) && acts::all_refused(&changed)) {
+                    return Err(format!("{name}, opened with {what}: a call does not answer 97"));
                 }
                 let opens = if rust { "opens" } else { "refuses" };
                 *total.entry(format!("opening, {what}: the Rust {opens}, the port answers {port}")).or_default() += 1;
             }
             cards.push((name, bytes));
         }
+    }
+    if only {
+        return acts::run(count, seed, &cards);
     }
     let start = Instant::now();
     while calls < count {
@@ -345,6 +354,7 @@ fn run(count: u64, seed: u64, paths: &[String]) -> Result<(), String> {
     for (rule, n) in total {
         println!("  {n} {rule}{}", smallest.get(&rule).map_or(String::new(), |s| format!(": {}", s.3)));
     }
+    acts::run(6 * count, seed, &cards)?;
     inodes::run(10 * count, &mut r, &cards)?;
     for (name, bytes) in &cards {
         time(name, bytes);
@@ -388,9 +398,13 @@ fn main() {
             eprintln!("{p}");
         }
     }));
-    let words: Vec<String> = std::env::args().skip(1).collect();
+    let mut words: Vec<String> = std::env::args().skip(1).collect();
+    let only = words.first().is_some_and(|w| w == "acts");
+    if only {
+        words.remove(0);
+    }
     let (count, seed) = (words[0].parse().expect("a number of calls"), words[1].parse().expect("a seed"));
-    let done = run(count, seed, &words[2..]);
+    let done = run(count, seed, only, &words[2..]);
     if let Err(first) = done {
         println!("seed {seed}: DIFFERENCE: {first}");
         std::process::exit(1);

@@ -1,5 +1,5 @@
 //! A volume's numbers and maps, read here once more from the format, and the rules by which Rust and port may part.
-const SUPER: usize = 65536;
+pub const SUPER: usize = 65536;
 
 /// A sound volume's group counts and totals lie no further from 0 than these.
 pub const COUNT_EDGE: i32 = 2147483639;
@@ -74,17 +74,17 @@ impl Card {
         let at = |o: usize| u64::from(word(image, SUPER + o));
         Card { sblkno: at(8), cblkno: at(12), iblkno: at(16), dblkno: at(20), ncg: at(44), bsize: at(48), fsize: at(52), frag: at(56), ipg: at(184), fpg: at(188) }
     }
-    fn group(&self, g: u64) -> usize {
+    pub fn group(&self, g: u64) -> usize {
         ((g * self.fpg + self.cblkno) * self.fsize) as usize
     }
     pub fn ndblk(&self, image: &[u8], g: u64) -> u64 {
         u64::from(word(image, self.group(g) + 20))
     }
     /// The map's byte of fragment f of group g, and the bit in it.
-    fn bit(&self, image: &[u8], g: u64, f: u64) -> (usize, u8) {
+    pub fn bit(&self, image: &[u8], g: u64, f: u64) -> (usize, u8) {
         (self.group(g) + word(image, self.group(g) + 96) as usize + (f / 8) as usize, 1 << (f % 8))
     }
-    fn free(&self, image: &[u8], g: u64, f: u64) -> bool {
+    pub fn free(&self, image: &[u8], g: u64, f: u64) -> bool {
         let (at, bit) = self.bit(image, g, f);
         image[at] & bit != 0
     }

@@ -44,7 +44,7 @@ fn attr_list(a: InodeAttr) -> [u64; 21]
 }
 
 // Writes the attributes, or zeros beside a refusal.
-fn put_attr(a: Attr, words: &mut [u64; 21]) -> u32
+pub fn put_attr(a: Attr, words: &mut [u64; 21]) -> u32
     ensures { λ r. ⌜ (r, now (words .exit)) ≡ attrWords a ⌝ }
 {
     match a {

@@ -14,6 +14,10 @@ fn unhex(text: &str) -> Option<Vec<u8>> {
     (0..text.len()).step_by(2).map(|i| u8::from_str_radix(text.get(i..i + 2)?, 16).ok()).collect()
 }
 
+fn hex(bytes: &[u8]) -> String {
+    if bytes.is_empty() { "-".into() } else { bytes.iter().map(|b| format!("{b:02x}")).collect() }
+}
+
 fn kind(number: u64) -> &'static str {
     ["", "fifo", "chr", "", "dir", "", "blk", "", "reg", "", "lnk", "", "sock"][number as usize]
 }
@@ -56,6 +60,56 @@ impl Held {
                 let mut buf = vec![0xEE; number(3)?.try_into().ok()?];
                 let done = hitchsnow::inode_read(image, inr()?, number(2)?, &mut buf);
                 return Some((done.map(|n| n.to_string()), Some(buf)));
+            }
+            ("inode_modify", 14) => {
+                let signed = |i: usize| -> Option<u64> { words.get(i)?.parse::<i64>().ok().map(|n| n as u64).or(number(i)) };
+                let mut times = [0; 8];
+                for i in 0..8 {
+                    times[i] = signed(6 + i)?;
+                }
+                let wanted = hitchsnow::Wanted { perm: number(2)? as u16, uid: number(3)? as u32, gid: number(4)? as u32, flags: number(5)? as u32, times };
+                hitchsnow::inode_modify(image, writable, inr()?, &wanted).map(attributes)
+            }
+            ("inode_write", 4) => hitchsnow::inode_write(image, writable, inr()?, number(2)?, &unhex(words[3])?).map(|n| n.to_string()),
+            ("inode_truncate", 3) => hitchsnow::inode_truncate(image, writable, inr()?, number(2)?).map(|()| String::new()),
+            ("dir_lookup", 3) => hitchsnow::dir_lookup(image, inr()?, &unhex(words[2])?).map(|i| i.to_string()),
+            ("dir_next", 4) => {
+                let mut buf = vec![0xEE; number(3)?.try_into().ok()?];
+                let done = hitchsnow::dir_next(image, inr()?, number(2)?, &mut buf);
+                let told = done.map(|w| match w[1] {
+                    0 => "end".into(),
+                    k => format!("{} {} {} {}", w[0], kind(k), hex(&buf[w[2] as usize..][..w[3] as usize]), w[4]),
+                });
+                return Some((told, Some(buf)));
+            }
+            ("unlink", 3) => hitchsnow::unlink(image, writable, inr()?, &unhex(words[2])?).map(|()| String::new()),
+            ("rmdir", 3) => hitchsnow::rmdir(image, writable, inr()?, &unhex(words[2])?).map(|()| String::new()),
+            ("rename", 6) => {
+                let from: u32 = number(3)?.try_into().ok()?;
+                hitchsnow::rename(image, writable, (inr()?, &unhex(words[2])?), (from, &unhex(words[4])?), number(5)? != 0).map(|i| i.to_string())
+            }
+            ("mknod", 9) | ("mkdir", 8) => {
+                // mkdir has no kind
+                let node = words[0] == "mknod";
+                let rest = if node { 4 } else { 3 };
+                let kind = if node { (1..13).find(|&k| !kind(k).is_empty() && kind(k) == words[3])? as u16 } else { 4 };
+                let sec = words[rest + 3].parse::<i64>().ok().map(|n| n as u64).or(number(rest + 3))?;
+                let new = hitchsnow::New { kind, perm: number(rest)? as u16, uid: number(rest + 1)? as u32, gid: number(rest + 2)? as u32, sec, nsec: number(rest + 4)? as u32 };
+                let name = unhex(words[2])?;
+                let made = if node { hitchsnow::mknod(image, writable, inr()?, &name, &new) } else { hitchsnow::mkdir(image, writable, inr()?, &name, &new) };
+                made.map(attributes)
+            }
+            ("xattr_list_len", 2) => hitchsnow::xattr_list_len(image, inr()?).map(|n| n.to_string()),
+            ("xattr_len", 3) => hitchsnow::xattr_len(image, inr()?, &unhex(words[2])?).map(|n| n.to_string()),
+            ("xattr_list", 3) => {
+                let mut buf = vec![0xEE; number(2)?.try_into().ok()?];
+                let done = hitchsnow::xattr_list(image, inr()?, &mut buf);
+                return Some((done.map(|n| n.to_string()), Some(buf)));
+            }
+            ("xattr_read", 4) => {
+                let mut buf = vec![0xEE; number(3)?.try_into().ok()?];
+                let done = hitchsnow::xattr_read(image, inr()?, &unhex(words[2])?, &mut buf);
+                return Some((done.map(|(begin, end)| format!("{begin} {end}")), Some(buf)));
             }
             ("load", 2) => Ok(*image = std::fs::read(words[1]).ok()?).map(|()| String::new()),
             ("save", 2) => Ok(std::fs::write(words[1], &image).ok()?).map(|()| String::new()),
