@@ -1,2 +1,3 @@
 pub mod MakeLaws
 pub mod MakeKeeps
+pub mod SameLaws
