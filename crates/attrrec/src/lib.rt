@@ -1,4 +1,6 @@
 // xattr.rs, the part on bytes: one extended attribute, judged, named and written.
+#![tactic(auto)]
+
 ghost use Rattle.std.specs.Prelude.{◌≡◌, ◌&&◌, [], ◌∷◌, ◌++◌, ◌+◌, ◌-◌, ◌≤◌, ◌<◌, length};
 ghost use Rattle.dirblock.specs.Search.{same_name};
 ghost use Rattle.field.specs.Field.{put};
@@ -8,7 +10,7 @@ ghost use Rattle.attrrec.specs.Text.{known, prefix, text_of, shown_len};
 use field::Order;
 
 // data.rs: ExtattrHeader, struct extattr without its name.
-#[derive(Drop)]
+#[derive(Clone, Copy)]
 pub struct Entry {
     pub len: u32,
     pub namespace: u8,
@@ -17,7 +19,7 @@ pub struct Entry {
 }
 
 // What stands at a place of an area: an attribute, the end of the walk, damage.
-#[derive(Drop)]
+#[derive(Clone, Copy)]
 pub enum Attr {
     Is(Entry),
     End,
@@ -25,7 +27,7 @@ pub enum Attr {
 }
 
 // An attribute that a search found, and its place.
-#[derive(Drop)]
+#[derive(Clone, Copy)]
 pub enum Find {
     At(usize, Entry),
     Absent,

@@ -1,4 +1,6 @@
 // balloc.rs: the public calls that give out and take back blocks, and the recount. Each tests the volume first.
+#![tactic(auto)]
+
 ghost use Rattle.std.specs.Prelude.{◌≡◌};
 ghost use Rattle.balloc_give.specs.Give.{gave_out, gave_made};
 ghost use Rattle.balloc_take.specs.Take.{took_out, took_made};
@@ -11,21 +13,21 @@ use sound::Taken;
 use volume::{FragNum, Volume};
 
 // The address, the size, and the number of stores made; or a refusal.
-#[derive(Drop)]
+#[derive(Clone, Copy)]
 pub enum Given {
     Block(FragNum, u64, u64, Volume),
     No(Refusal),
 }
 
 // The number of stores made, or a refusal.
-#[derive(Drop)]
+#[derive(Clone, Copy)]
 pub enum Freed {
     Made(u64, Volume),
     No(Refusal),
 }
 
 // The totals nbfree and nffree, or a refusal.
-#[derive(Drop)]
+#[derive(Clone, Copy)]
 pub enum Recounted {
     Totals(u64, u64, Volume),
     No(Refusal),

@@ -1,4 +1,6 @@
 // balloc.rs, blk_free: the stores that take back a block or fragments. A call takes the number k of stores after which it stops.
+#![tactic(auto)]
+
 ghost use Rattle.std.specs.Prelude.{◌≡◌, ◌-◌, ◌<◌, ◌≤◌, min, true, false, [], ◌∷◌, length};
 ghost use Rattle.store.specs.Store.{apply_if, cut};
 ghost use Rattle.store.specs.Act.{cut_leaves};

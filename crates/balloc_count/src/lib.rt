@@ -1,4 +1,6 @@
 // balloc.rs: the recount, which writes the counts of the free map anew. The port adds it.
+#![tactic(auto)]
+
 ghost use Rattle.std.specs.Prelude.{◌≡◌, ◌<◌};
 ghost use Rattle.store.specs.Store.{apply};
 ghost use Rattle.store.specs.Act.{got, leaves};
@@ -8,7 +10,7 @@ ghost use Rattle.balloc_count.specs.Recount.{blocks_of, loose_of, group_store, r
 use volume::{Count, Geometry};
 
 // A fresh count: of the wholly free blocks, and of the free fragments in none of these.
-#[derive(Drop)]
+#[derive(Clone, Copy)]
 pub struct Fresh {
     pub nbfree: u64,
     pub nffree: u64,

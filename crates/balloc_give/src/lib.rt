@@ -1,4 +1,6 @@
 // balloc.rs (blk_alloc_full): a whole block is given out.
+#![tactic(auto)]
+
 ghost use Rattle.std.specs.Prelude.{◌≡◌, ◌<◌, min};
 ghost use Rattle.store.specs.Store.{cut};
 ghost use Rattle.store.specs.Act.{cut_leaves, leaves};
@@ -10,21 +12,21 @@ use refusal::Refusal;
 use volume::{Count, FragNum, Geometry, Totals};
 
 // A group and a block of it, or none.
-#[derive(Drop)]
+#[derive(Clone, Copy)]
 pub enum Chosen {
     Block(u32, usize),
     Nothing,
 }
 
 // The block's address and the number of stores made, or a refusal.
-#[derive(Drop)]
+#[derive(Clone, Copy)]
 pub enum Gave {
     Block(FragNum, u64),
     No(Refusal),
 }
 
 // The address of a block given out and zeroed, or a refusal.
-#[derive(Drop)]
+#[derive(Clone, Copy)]
 pub enum Zeroed {
     Block(FragNum),
     No(Refusal),
@@ -62,7 +64,7 @@ pub fn blk_choose(img: &[u8], geo: Geometry) -> Chosen
 }
 
 // What giving out block h of group g stores: the map byte and its place, the group's count, the total.
-#[derive(Drop)]
+#[derive(Clone, Copy)]
 struct Giving {
     place: usize,
     byte: u8,

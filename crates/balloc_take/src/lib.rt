@@ -1,4 +1,6 @@
 // balloc.rs, blk_free: whether blocks and fragments may be taken back.
+#![tactic(auto)]
+
 ghost use Rattle.std.specs.Prelude.{◌≡◌, ◌+◌, ◌-◌, ◌/◌, ◌%◌, ◌<◌, ◌≤◌, true, false, length};
 ghost use Rattle.refusal.specs.declared.Refusal.TheVariants.{Damaged};
 ghost use Rattle.volume.specs.Volume.{cg_at, counts_of};
@@ -14,14 +16,14 @@ use volume::{Counts, FragNum, Geometry};
 pub mod fits;
 
 // Whether a run may be taken back, or why not.
-#[derive(Drop)]
+#[derive(Clone, Copy)]
 pub enum Judged {
     Good,
     Bad(Refusal),
 }
 
 // The number of stores made, or why none is.
-#[derive(Drop)]
+#[derive(Clone, Copy)]
 pub enum Took {
     Made(u64),
     No(Refusal),

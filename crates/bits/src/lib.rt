@@ -1,10 +1,12 @@
 // balloc.rs, cg_*: the rules of the free map and of the inode map, which are bytes of a lent slice that begin at `at`.
+#![tactic(auto)]
+
 ghost use Rattle.std.specs.Prelude.{◌≡◌, true, ◌+◌, ◌-◌, ◌*◌, ◌/◌, ◌%◌, ◌^◌, ◌<◌, ◌≤◌, min, eqb, length, get_or};
 ghost use Rattle.bits.specs.Upto.{as_bit};
 ghost use Rattle.bits.specs.Bits.{is_frag, frag_free, bits_are, block_free, block_full, put_bits, put_bits_at};
 
 // The number that a scan finds.
-#[derive(Drop)]
+#[derive(Clone, Copy)]
 pub enum Found {
     At(usize),
     Nothing,

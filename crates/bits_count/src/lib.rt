@@ -1,4 +1,6 @@
 // Counts over a map: byte by byte, and within a byte block by block.
+#![tactic(auto)]
+
 ghost use Rattle.std.specs.Prelude.{◌≡◌, true, ◌+◌, ◌*◌, ◌/◌, ◌^◌, ◌<◌, ◌≤◌, length};
 ghost use Rattle.bits.specs.Bits.{is_frag, free_blocks, free_frags, InByte};
 
@@ -78,7 +80,7 @@ pub fn count_blocks(img: &[u8], at: usize, frag: u32, nb: usize) -> usize
 }
 
 // What one pass over a map counts.
-#[derive(Drop)]
+#[derive(Clone, Copy)]
 pub struct MapCount {
     pub blocks: usize,
     pub frags: usize,

@@ -1,4 +1,6 @@
 // Scans of a map: byte by byte, and within a byte block by block or bit by bit.
+#![tactic(auto)]
+
 ghost use Rattle.std.specs.Prelude.{◌≡◌, true, ◌+◌, ◌-◌, ◌*◌, ◌/◌, ◌%◌, ◌^◌, ◌<◌, ◌≤◌, length};
 ghost use Rattle.bits.specs.Upto.{first};
 ghost use Rattle.bits.specs.Bits.{is_frag, block_free, is_clear, first_free, first_clear, InByte};

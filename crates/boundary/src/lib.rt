@@ -1,4 +1,6 @@
 // The public calls for C and Rust to link: each returns 0 or the refusal's number, and writes what else it answers.
+#![tactic(auto)]
+
 ghost use Rattle.std.specs.Prelude.{◌≡◌};
 ghost use Rattle.sound.specs.Test.{opened};
 ghost use Rattle.balloc.specs.Calls.{alloc_cut, alloc_plain, free_cut, free_plain, recount_plain};

@@ -1,4 +1,6 @@
 // The public calls on directories, for C and Rust to link: each returns 0 or the refusal's number, and writes what else it answers.
+#![tactic(auto)]
+
 ghost use Rattle.std.specs.Prelude.{◌≡◌};
 ghost use Rattle.dirlookup.specs.Lookup.{dir_lookup, lookup_of};
 ghost use Rattle.dirnext.specs.Next.{dir_next, next_answer};

@@ -1,4 +1,6 @@
 // The public calls that read inodes, for C and Rust to link: each returns 0 or the refusal's number, and writes what else it answers.
+#![tactic(auto)]
+
 ghost use Rattle.std.specs.Prelude.{◌≡◌};
 ghost use Rattle.inode_attr.specs.Attr.{inode_attr, attr_answer};
 ghost use Rattle.inode_read.specs.Calls.{inode_get_block_size, size_answer, inode_resolve_block, resolved_answer, inode_read, read_answer};

@@ -1,4 +1,6 @@
 // The public calls that change directories, for C and Rust to link: each returns 0 or the refusal's number, and writes what else it answers.
+#![tactic(auto)]
+
 ghost use Rattle.std.specs.Prelude.{◌≡◌};
 ghost use Rattle.store.specs.Act.{leaves};
 ghost use Rattle.inode.specs.Shape.{type_of};

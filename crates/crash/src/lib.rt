@@ -1,1 +1,2 @@
 // Theorems about runs of the block calls that are cut and recounted; no code.
+#![tactic(auto)]

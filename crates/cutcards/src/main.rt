@@ -1,5 +1,7 @@
 // Runs of the block calls on two small cards, each cut after every store and before the first, and recounted: the answers, then what
 // 01 asks of the card. `stdout` has what 01's words give on the same bytes.
+#![tactic(auto)]
+
 use balloc::{Freed, Given, Recounted};
 use field::Order;
 use libc::STDOUT_FILENO;
@@ -38,7 +40,7 @@ const FREEOFF: usize = 96;
 type Card = [u8; 331776];
 
 // What a call of a run does: a block given; a run of fragments back, by its address or from the block given last.
-#[derive(Drop)]
+#[derive(Clone, Copy)]
 enum Act {
     Give,
     Back,
@@ -46,7 +48,7 @@ enum Act {
     Nothing,
 }
 
-#[derive(Drop)]
+#[derive(Clone, Copy)]
 struct Call {
     act: Act,
     at: u64,
@@ -56,7 +58,7 @@ struct Call {
 type Calls = [Call; 6];
 
 // Where a run is: the stores left and made, the calls made, the block given last.
-#[derive(Drop)]
+#[derive(Clone, Copy)]
 struct Walk {
     left: u64,
     made: u64,
@@ -65,7 +67,7 @@ struct Walk {
 }
 
 // A fresh count: free blocks, free fragments in none of them, and the free ones in a row in the block so far.
-#[derive(Drop)]
+#[derive(Clone, Copy)]
 struct Tally {
     row: u64,
     blocks: u64,

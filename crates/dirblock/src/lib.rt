@@ -1,11 +1,13 @@
 // dir.rs, the part on blocks: one directory block and its records, walked by a cursor.
+#![tactic(auto)]
+
 ghost use Rattle.std.specs.Prelude.{◌≡◌, ◌+◌, ◌-◌, ◌≤◌, ◌<◌, length};
 ghost use Rattle.dirblock.specs.Record.{smallest_read, smallest_new, kind_known, entry_at, name_at, judged, rec_at, slack};
 
 use field::Order;
 
 // dir.rs: Header, struct direct without its name, which is a part of the block.
-#[derive(Drop)]
+#[derive(Clone, Copy)]
 pub struct Entry {
     pub inr: u32,
     pub reclen: u16,
@@ -14,7 +16,7 @@ pub struct Entry {
 }
 
 // What stands at a place of a block: a record, a record that no file uses, the end of the walk, damage.
-#[derive(Drop)]
+#[derive(Clone, Copy)]
 pub enum Rec {
     Used(Entry),
     Unused(Entry),
@@ -23,14 +25,14 @@ pub enum Rec {
 }
 
 // A record that a search found, its place, and the place of the record before it: its own where it is the first.
-#[derive(Drop)]
+#[derive(Clone, Copy)]
 pub struct Spot {
     pub pos: usize,
     pub prev: usize,
     pub entry: Entry,
 }
 
-#[derive(Drop)]
+#[derive(Clone, Copy)]
 pub enum Find {
     At(Spot),
     Absent,
@@ -38,7 +40,7 @@ pub enum Find {
 }
 
 // A record with room for a new one, and its place.
-#[derive(Drop)]
+#[derive(Clone, Copy)]
 pub enum Room {
     At(usize, Entry),
     Full,
@@ -46,7 +48,7 @@ pub enum Room {
 }
 
 // What linking answers: no room is no refusal, the next block is asked.
-#[derive(Drop)]
+#[derive(Clone, Copy)]
 pub enum Linked {
     Done,
     Full,
@@ -54,7 +56,7 @@ pub enum Linked {
 }
 
 // What unlinking answers: the inode, and whether its record stood alone and the block goes.
-#[derive(Drop)]
+#[derive(Clone, Copy)]
 pub enum Unlinked {
     Done(u32),
     Alone(u32),

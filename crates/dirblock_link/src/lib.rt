@@ -1,4 +1,6 @@
 // dir.rs: newlink_block and unlink_block. A name linked into a block, and one unlinked from it.
+#![tactic(auto)]
+
 ghost use Rattle.std.specs.Prelude.{◌≡◌, ◌+◌, ◌≤◌, ◌<◌, length};
 ghost use Rattle.dirblock.specs.declared.Rec.TheVariants.{Used};
 ghost use Rattle.dirblock.specs.Record.{smallest_new, entry_at, name_at, rec_at, slack, shrunk, absorb};

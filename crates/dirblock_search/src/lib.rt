@@ -1,4 +1,6 @@
 // dir.rs: readdir_block, and the searches of newlink_block and unlink_block. The first record of a block that is asked for.
+#![tactic(auto)]
+
 ghost use Rattle.std.specs.Prelude.{◌≡◌, cond, ◌+◌, ◌≤◌, length};
 ghost use Rattle.dirblock.specs.Record.{listed, findable, name_at};
 ghost use Rattle.dirblock.specs.Search.{same_name, named, find_in, room_in};

@@ -1,4 +1,6 @@
 // dir.rs: Header::write and newdir. Records written into a lent block.
+#![tactic(auto)]
+
 ghost use Rattle.std.specs.Prelude.{◌≡◌, ◌+◌, ◌≤◌, length};
 ghost use Rattle.dirblock.specs.Record.{name_at};
 ghost use Rattle.dirblock.specs.Write.{put_header, put_rec, Fits, newdir_block};

@@ -1,5 +1,7 @@
 // The listing of dirlist on many blocks: those of the real cards, 01's example, and damaged ones. `data/blocks` has a frame for
 // each: the block's length, the label's length, the label in 32 bytes, the block in 1,024. `stdout` has what 01's rule gives.
+#![tactic(auto)]
+
 use field::Order;
 use libc::STDOUT_FILENO;
 

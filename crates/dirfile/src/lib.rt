@@ -1,4 +1,6 @@
 // dir.rs and inode.rs (inode_read of 512 bytes): a directory found by its number, and one of its blocks of 512 bytes.
+#![tactic(auto)]
+
 ghost use Rattle.std.specs.Prelude.{◌≡◌, false, ◌+◌, ◌*◌, ◌≤◌, length};
 ghost use Rattle.frame.specs.Frame.{Frame};
 ghost use Rattle.inode_run.specs.Find.{found_of};
@@ -10,7 +12,7 @@ use refusal::Refusal;
 use volume::{BlockIdx, Geometry, InodeNum};
 
 // Where a block of 512 bytes stands in the image; a hole is zeros; Bad cannot be read.
-#[derive(Drop)]
+#[derive(Clone, Copy)]
 pub enum BlockAt {
     At(usize),
     Hole,

@@ -1,4 +1,6 @@
 // What dir_newlink and dir_unlink would meet in inode_truncate, judged before any store.
+#![tactic(auto)]
+
 ghost use Rattle.std.specs.Prelude.{◌≡◌, ◌+◌, ◌≤◌, length};
 ghost use Rattle.store.specs.Act.{got};
 ghost use Rattle.sound.specs.Test.{Sized};

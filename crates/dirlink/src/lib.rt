@@ -1,4 +1,6 @@
 // dir.rs: dir_newlink and dir_unlink, a name linked into a directory and one unlinked from it.
+#![tactic(auto)]
+
 ghost use Rattle.std.specs.Prelude.{◌≡◌, ◌+◌, ◌*◌, ◌≤◌, ◌<◌, length};
 ghost use Rattle.store.specs.Act.{leaves};
 ghost use Rattle.frame.specs.Frame.{Frame};
@@ -12,7 +14,7 @@ use refusal::Refusal;
 use volume::{Geometry, InodeNum};
 
 // The inode that lost its name, or a refusal.
-#[derive(Drop)]
+#[derive(Clone, Copy)]
 pub enum Gone {
     Inode(u32),
     No(Refusal),

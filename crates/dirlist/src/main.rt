@@ -1,4 +1,6 @@
 // 01's program dirlist: reads a directory block and prints its records. `stdin` and `stdout` are 01's example.
+#![tactic(auto)]
+
 use field::Order;
 use libc::{STDIN_FILENO, STDOUT_FILENO};
 

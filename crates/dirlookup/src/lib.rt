@@ -1,4 +1,6 @@
 // dir.rs: dir_lookup, the public call.
+#![tactic(auto)]
+
 ghost use Rattle.std.specs.Prelude.{◌≡◌};
 ghost use Rattle.frame.specs.Frame.{Frame};
 ghost use Rattle.dirlookup.specs.Lookup.{lookup_for, dir_lookup, lookup_of};
@@ -10,7 +12,7 @@ use sound::Taken;
 use volume::{Geometry, InodeNum};
 
 // The inode number of the record of that name, or a refusal.
-#[derive(Drop)]
+#[derive(Clone, Copy)]
 pub enum Lookup {
     Inode(u32),
     No(Refusal),

@@ -1,4 +1,6 @@
 // dir.rs: the work of mknod and mkdir.
+#![tactic(auto)]
+
 ghost use Rattle.std.specs.Prelude.{◌≡◌, ◌*◌, ◌<◌, length};
 ghost use Rattle.store.specs.Act.{leaves};
 ghost use Rattle.frame.specs.Frame.{Frame};
@@ -12,7 +14,7 @@ use refusal::Refusal;
 use volume::{Geometry, InodeNum};
 
 // What the new inode's record says, or a refusal.
-#[derive(Drop)]
+#[derive(Clone, Copy)]
 pub enum Made {
     Attr(InodeAttr),
     No(Refusal),

@@ -1,4 +1,6 @@
 // The names that a directory call is given, before anything else of it is judged.
+#![tactic(auto)]
+
 ghost use Rattle.std.specs.Prelude.{◌≡◌};
 ghost use Rattle.dirnames.specs.Names.{plain, legal, special, taken, short};
 

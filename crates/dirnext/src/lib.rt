@@ -1,4 +1,6 @@
 // dir.rs: dir_iter, as a cursor: each call tells one record, its name a part of the lent buffer.
+#![tactic(auto)]
+
 ghost use Rattle.std.specs.Prelude.{◌≡◌, ◌+◌, ◌*◌, ◌≤◌, ◌<◌, length};
 ghost use Rattle.frame.specs.Frame.{Frame};
 ghost use Rattle.dirfile.specs.Block.{dir_block};
@@ -15,7 +17,7 @@ use refusal::Refusal;
 use volume::{Geometry, InodeNum};
 
 // A record of a directory: its inode, which is not judged, its kind, where its name lies in the buffer, and the cursor behind it.
-#[derive(Drop)]
+#[derive(Clone, Copy)]
 pub struct DirEntry {
     pub inr: u32,
     pub kind: InodeType,
@@ -24,7 +26,7 @@ pub struct DirEntry {
     pub next: u64,
 }
 
-#[derive(Drop)]
+#[derive(Clone, Copy)]
 pub enum Next {
     Entry(DirEntry),
     End,

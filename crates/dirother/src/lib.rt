@@ -1,4 +1,6 @@
 // dir.rs (rmdir's walk of the directory that is to go): whether it holds any record but its "." and "..".
+#![tactic(auto)]
+
 ghost use Rattle.std.specs.Prelude.{◌≡◌, ◌+◌, ◌*◌, ◌≤◌, length};
 ghost use Rattle.frame.specs.Frame.{Frame};
 ghost use Rattle.dirblock.specs.Record.{name_at};
@@ -12,7 +14,7 @@ use field::Order;
 use volume::Geometry;
 
 // Whether a directory holds another record: not empty, empty, or damaged before any such record.
-#[derive(Drop)]
+#[derive(Clone, Copy)]
 pub enum Others {
     Some,
     None,

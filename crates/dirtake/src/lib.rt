@@ -1,4 +1,6 @@
 // dir.rs: unlink's work, a name taken away and with its last name the inode; rename and rmdir take names away too.
+#![tactic(auto)]
+
 ghost use Rattle.std.specs.Prelude.{◌≡◌};
 ghost use Rattle.store.specs.Act.{leaves};
 ghost use Rattle.frame.specs.Frame.{Frame};

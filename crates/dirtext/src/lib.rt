@@ -1,4 +1,6 @@
 // What the program dirlist prints of a directory block, written into a lent buffer.
+#![tactic(auto)]
+
 ghost use Rattle.std.specs.Prelude.{◌≡◌, [], ◌∷◌, ◌++◌, ◌+◌, ◌*◌, ◌≤◌, ◌<◌, length};
 ghost use Rattle.field.specs.Field.{part, put};
 ghost use Rattle.dirblock.specs.Record.{name_at};

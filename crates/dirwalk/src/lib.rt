@@ -1,4 +1,6 @@
 // dir.rs (dir_lookup, and the searches of dir_unlink and dir_newlink): a directory searched block by block.
+#![tactic(auto)]
+
 ghost use Rattle.std.specs.Prelude.{◌≡◌, false, ◌+◌, ◌*◌, ◌≤◌, ◌<◌, length};
 ghost use Rattle.frame.specs.Frame.{Frame};
 ghost use Rattle.dirblock.specs.Search.{find_in, room_in};
@@ -13,7 +15,7 @@ use field::Order;
 use volume::Geometry;
 
 // What a lookup answers: the inode number of the record, which is not judged itself.
-#[derive(Drop)]
+#[derive(Clone, Copy)]
 pub enum Looked {
     At(u32),
     Absent,
@@ -21,14 +23,14 @@ pub enum Looked {
 }
 
 // A record that is to go: its block, its inode, and whether it stands alone in its block.
-#[derive(Drop)]
+#[derive(Clone, Copy)]
 pub struct Hit {
     pub block: u64,
     pub inr: u32,
     pub alone: bool,
 }
 
-#[derive(Drop)]
+#[derive(Clone, Copy)]
 pub enum Seen {
     At(Hit),
     Absent,
@@ -36,7 +38,7 @@ pub enum Seen {
 }
 
 // The first block with room for a name.
-#[derive(Drop)]
+#[derive(Clone, Copy)]
 pub enum Space {
     At(u64),
     Full,

@@ -1,4 +1,6 @@
 // dir.rs (dir_newlink, dir_unlink) and inode.rs (inode_copy_range): a directory's blocks written, moved and cut off.
+#![tactic(auto)]
+
 ghost use Rattle.std.specs.Prelude.{◌≡◌, ◌+◌, ◌-◌, ◌*◌, ◌≤◌, ◌<◌, length};
 ghost use Rattle.field.specs.Field.{zeros};
 ghost use Rattle.store.specs.Act.{leaves};

@@ -1,9 +1,11 @@
 // decoder.rs: numbers of 1, 2, 4 and 8 bytes and byte runs at an offset of a lent slice, in either byte order.
+#![tactic(auto)]
+
 ghost use Rattle.std.specs.Prelude.{◌≡◌, ◌+◌, ◌≤◌, length, true, false};
 ghost use Rattle.field.specs.Field.{num, put_num, part, put, zeros};
 
 // Which byte of a number stands first: the low one or the high one.
-#[derive(Drop)]
+#[derive(Clone, Copy)]
 pub enum Order {
     Little,
     Big,

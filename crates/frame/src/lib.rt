@@ -1,4 +1,6 @@
 // ufs/mod.rs (cg_addr): places of a sound volume, handed out with what is known of them.
+#![tactic(auto)]
+
 ghost use Rattle.std.specs.Prelude.{◌≡◌, ◌+◌, ◌*◌, ◌/◌, ◌≤◌, ◌<◌, length, [], ◌∷◌};
 ghost use Rattle.volume.specs.Volume.{byte_at, cg_at, count_at};
 ghost use Rattle.frame.specs.Frame.{Frame, Spots, place_okb, run_okb, GroupIs, InodeIs};

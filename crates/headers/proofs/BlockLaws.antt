@@ -12,7 +12,7 @@ use lib.ListN.{length, get_or, set}
 use Rattle.field.specs.Field.{Bytes}
 use Rattle.headers.specs.Maps.{holds, lacks, or_into, clear_in, isset, Frag, eight, four, two, one, frags, isblock, isfreeblock, setblock, clrblock}
 use Rattle.headers.proofs.BitLaws.{bit, ones, bit_lt, run_masked, masked_run}
-use Rattle.headers.proofs.MapLaws.{isset-bit, same-bit, or-in, clear_in, or_apart, clear_apart}
+use Rattle.headers.proofs.MapLaws.{isset-bit, same-bit, or-in, clear_in_lem, or_apart, clear_apart}
 
 -- the byte and the shift of an arm's mask are those of bit h * n
 record At (h n k s : ℕ) : Type 0 where
@@ -152,7 +152,7 @@ module _ (f : Frag) (cp : List ℕ) (h : ℕ) (bytes : Bytes cp) where
   pub clrblock-in : (i : ℕ) → h * frags f / 8 < length cp → h * frags f ≤ i → i < h * frags f + frags f → isset (clrblock f cp h) i ≡ false
   clrblock-in i k l m =
       ap (λ (xs : List ℕ). isset xs i) (clrblock-masked cp h f)
-      ∙ clear_in cp (h * frags f / 8) (frags f) (h * frags f % 8) i (in_byte f h) k (omega arith) (omega arith)
+      ∙ clear_in_lem cp (h * frags f / 8) (frags f) (h * frags f % 8) i (in_byte f h) k (omega arith) (omega arith)
 
   pub clrblock-out : (i : ℕ) → (i < h * frags f) ⊎ (h * frags f + frags f ≤ i) → isset (clrblock f cp h) i ≡ isset cp i
   clrblock-out i o =

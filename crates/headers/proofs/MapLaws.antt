@@ -83,8 +83,8 @@ module _ (a : List ℕ) (k n s i : ℕ) (fits : s + n ≤ 8) where
       stored_in a k (bit_or x (ones n s)) i 1 h (omega arith)
       (bit_or_lem (i % 8) x (ones n s) ∙ omega (arith, ones_in n s (i % 8) (omega arith) (omega arith), bit_lt (i % 8) x))
 
-  pub clear_in : k < length a → 8 * k + s ≤ i → i < 8 * k + s + n → isset (clear_in a k (ones n s)) i ≡ false
-  clear_in h l m =
+  pub clear_in_lem : k < length a → 8 * k + s ≤ i → i < 8 * k + s + n → isset (clear_in a k (ones n s)) i ≡ false
+  clear_in_lem h l m =
       let x = get_or a k 0 in
       stored_in a k (bit_and x (0xff - ones n s)) i 0 h (omega arith)
       (bit-and (i % 8) x (0xff - ones n s)
@@ -123,7 +123,7 @@ setbit-other a i j n = or_apart a (i / 8) 1 (i % 8) j (omega arith) (beside i j 
 
 pub clrbit-same : (a : List ℕ) (i : ℕ) → i / 8 < length a → isset (clrbit a i) i ≡ false
 unfolding clrbit
-clrbit-same a i h = clear_in a (i / 8) 1 (i % 8) i (omega arith) h (omega arith) (omega arith)
+clrbit-same a i h = clear_in_lem a (i / 8) 1 (i % 8) i (omega arith) h (omega arith) (omega arith)
 
 pub clrbit-other : (a : List ℕ) (i j : ℕ) → j ≢ i → isset (clrbit a i) j ≡ isset a j
 unfolding clrbit

@@ -1,4 +1,6 @@
 // ialloc.rs (inode_free): an inode loses a link, and is freed with its last one.
+#![tactic(auto)]
+
 ghost use Rattle.std.specs.Prelude.{◌≡◌, ◌-◌, ◌*◌, ◌/◌, ◌%◌, ◌≤◌, ◌<◌, length};
 ghost use Rattle.store.specs.Act.{leaves};
 ghost use Rattle.frame.specs.Frame.{Frame};
@@ -10,7 +12,7 @@ use refusal::Refusal;
 use volume::{BlockIdx, Geometry, InodeNum};
 
 // The link is gone, or a refusal.
-#[derive(Drop)]
+#[derive(Clone, Copy)]
 pub enum Unlinked {
     Done,
     No(Refusal),

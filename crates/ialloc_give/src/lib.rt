@@ -1,4 +1,6 @@
 // ialloc.rs (inode_alloc, inode_setup, inode_bump), inode.rs (Inode::new): an inode is given out, and one more link is counted.
+#![tactic(auto)]
+
 ghost use Rattle.std.specs.Prelude.{◌≡◌, ◌+◌, ◌*◌, ◌/◌, ◌<◌, ◌≤◌, [], ◌∷◌, length};
 ghost use Rattle.store.specs.Store.{apply};
 ghost use Rattle.store.specs.Act.{got, leaves};
@@ -15,21 +17,21 @@ use refusal::Refusal;
 use volume::{Count, Geometry, InodeNum};
 
 // A group and an inode of it, or none.
-#[derive(Drop)]
+#[derive(Clone, Copy)]
 pub enum Place {
     At(u32, usize),
     Nothing,
 }
 
 // The inode given, or a refusal.
-#[derive(Drop)]
+#[derive(Clone, Copy)]
 pub enum NewInode {
     Number(InodeNum),
     No(Refusal),
 }
 
 // What was to be stored is stored, or a refusal.
-#[derive(Drop)]
+#[derive(Clone, Copy)]
 pub enum Stored {
     Done,
     No(Refusal),

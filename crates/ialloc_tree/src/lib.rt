@@ -1,4 +1,6 @@
 // ialloc.rs (inode_free_block, inode_free_l1, inode_free_l2, inode_free_l3): freeing a block, and a tree of lists.
+#![tactic(auto)]
+
 ghost use Rattle.std.specs.Prelude.{◌≡◌, true, ◌+◌, ◌-◌, ◌≤◌, ◌<◌};
 ghost use Rattle.store.specs.Act.{leaves};
 ghost use Rattle.frame.specs.Frame.{Frame};
@@ -11,7 +13,7 @@ use refusal::Refusal;
 use volume::{BlockIdx, FragNum, Geometry};
 
 // The blocks of 512 bytes that the inode still holds, or a refusal.
-#[derive(Drop)]
+#[derive(Clone, Copy)]
 pub enum Freed {
     Held(u64),
     No(Refusal),

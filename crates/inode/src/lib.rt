@@ -1,4 +1,6 @@
 // inode.rs, data.rs: the inode's record, its constants, and its size in blocks and fragments.
+#![tactic(auto)]
+
 ghost use Rattle.std.specs.Prelude.{◌≡◌, ◌+◌, ◌*◌, ◌/◌, ◌≤◌, ◌<◌, length, [], ◌∷◌};
 ghost use Rattle.inode.specs.Size.{size_in, extent_of, held_at};
 ghost use Rattle.inode.specs.Shape.{shape_of, address_at, type_of, is_dir, sized, in_place};
@@ -11,21 +13,21 @@ use field::Order;
 use volume::{BlockIdx, FragNum, Geometry, InodeNum};
 
 // A file's whole blocks, and the fragments of its tail.
-#[derive(Drop)]
+#[derive(Clone, Copy)]
 pub struct Extent {
     pub blocks: u64,
     pub frags: u64,
 }
 
 // How many bytes a block of a file holds.
-#[derive(Drop)]
+#[derive(Clone, Copy)]
 pub enum Held {
     Bytes(u64),
     PastEnd,
 }
 
 // What a record says of how the data lie.
-#[derive(Drop)]
+#[derive(Clone, Copy)]
 pub struct Shape {
     pub mode: u16,
     pub size: u64,
@@ -33,7 +35,7 @@ pub struct Shape {
 }
 
 // When the data were read, when they and the record were changed, and when the inode was made. Signed on the disk, kept modulo 2^64 and 2^32.
-#[derive(Drop)]
+#[derive(Clone, Copy)]
 pub struct Times {
     pub atime: u64,
     pub mtime: u64,
@@ -46,7 +48,7 @@ pub struct Times {
 }
 
 // data.rs: Inode. The record whole.
-#[derive(Drop)]
+#[derive(Clone, Copy)]
 pub struct Inode {
     pub mode: u16,
     pub nlink: u16,
@@ -70,7 +72,7 @@ pub struct Inode {
 }
 
 // data.rs: InodeType.
-#[derive(Drop)]
+#[derive(Clone, Copy)]
 pub enum InodeType {
     NamedPipe,
     CharDevice,
@@ -82,14 +84,14 @@ pub enum InodeType {
 }
 
 // The kind that a record names, if it names one.
-#[derive(Drop)]
+#[derive(Clone, Copy)]
 pub enum Kind {
     Is(InodeType),
     Nameless,
 }
 
 // data.rs: InodeAttr. What is told of an inode.
-#[derive(Drop)]
+#[derive(Clone, Copy)]
 pub struct InodeAttr {
     pub inr: InodeNum,
     pub perm: u16,

@@ -1,4 +1,6 @@
 // inode.rs: inode_attr, what an inode's record says of it.
+#![tactic(auto)]
+
 ghost use Rattle.std.specs.Prelude.{◌≡◌};
 ghost use Rattle.inode_attr.specs.Attr.{inode_attr, attr_answer};
 
@@ -8,7 +10,7 @@ use refusal::Refusal;
 use volume::InodeNum;
 
 // The attributes, or a refusal.
-#[derive(Drop)]
+#[derive(Clone, Copy)]
 pub enum Attr {
     Of(InodeAttr),
     No(Refusal),

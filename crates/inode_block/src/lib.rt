@@ -1,4 +1,6 @@
 // inode.rs: the calls that ask where and how large the blocks of a file are.
+#![tactic(auto)]
+
 ghost use Rattle.std.specs.Prelude.{◌≡◌, ◌+◌, ◌-◌, ◌≤◌, ◌<◌, length, ltb};
 ghost use Rattle.sound.specs.Test.{Sized};
 ghost use Rattle.frame.specs.Frame.{Frame};

@@ -1,4 +1,6 @@
 // Whether a file may grow: the port gives no tail more fragments.
+#![tactic(auto)]
+
 ghost use Rattle.std.specs.Prelude.{◌≡◌, ◌&&◌, not, ◌+◌, ◌≤◌, ◌<◌, length};
 ghost use Rattle.sound.specs.Test.{Sized};
 ghost use Rattle.frame.specs.Frame.{Frame};
@@ -10,7 +12,7 @@ use mapping::Mapped;
 use refusal::Refusal;
 use volume::{BlockIdx, Geometry};
 
-#[derive(Drop)]
+#[derive(Clone, Copy)]
 pub enum Growth {
     Free,
     No(Refusal),

@@ -1,4 +1,6 @@
 // inode.rs: inode_modify. The wanted attributes stand in for the Rust's closure.
+#![tactic(auto)]
+
 ghost use Rattle.std.specs.Prelude.{◌≡◌, ◌+◌, ◌*◌, ◌/◌, ◌%◌, ◌≤◌, length};
 ghost use Rattle.store.specs.Act.{got, leaves};
 ghost use Rattle.inode_modify.specs.Modify.{changed, modify_at, inode_modify, modified_out};
@@ -10,7 +12,7 @@ use sound::Taken;
 use volume::{Geometry, InodeNum, Volume};
 
 // What the new record says, or a refusal.
-#[derive(Drop)]
+#[derive(Clone, Copy)]
 pub enum Modified {
     To(InodeAttr),
     No(Refusal),

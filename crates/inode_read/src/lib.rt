@@ -1,4 +1,6 @@
 // inode.rs: reading a file.
+#![tactic(auto)]
+
 ghost use Rattle.std.specs.Prelude.{◌≡◌, ◌+◌, ◌-◌, ◌≤◌, ◌<◌, min, length};
 ghost use Rattle.field.specs.Field.{put};
 ghost use Rattle.frame.specs.Frame.{Frame};
@@ -12,21 +14,21 @@ use sound::Taken;
 use volume::{BlockIdx, FragNum, Geometry, InodeNum};
 
 // An inode of a sound volume, or a refusal.
-#[derive(Drop)]
+#[derive(Clone, Copy)]
 pub enum Known {
     At(Geometry, Spot),
     No(Refusal),
 }
 
 // How many bytes a block holds, or a refusal.
-#[derive(Drop)]
+#[derive(Clone, Copy)]
 pub enum BlockSize {
     Bytes(u64),
     No(Refusal),
 }
 
 // The address of a block, or a hole, or a refusal.
-#[derive(Drop)]
+#[derive(Clone, Copy)]
 pub enum Resolved {
     At(FragNum),
     Hole,
@@ -34,7 +36,7 @@ pub enum Resolved {
 }
 
 // How many bytes were read, or a refusal.
-#[derive(Drop)]
+#[derive(Clone, Copy)]
 pub enum Read {
     Bytes(u64),
     No(Refusal),

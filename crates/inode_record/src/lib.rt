@@ -1,4 +1,6 @@
 // data.rs, ufs/inode.rs (read_inode, write_inode): an inode's record, read whole and stored whole.
+#![tactic(auto)]
+
 ghost use Rattle.std.specs.Prelude.{◌≡◌, ◌+◌, ◌≤◌, length};
 ghost use Rattle.store.specs.Store.{apply};
 ghost use Rattle.inode_record.specs.Record.{inode_of, inode_store};

@@ -1,4 +1,6 @@
 // inode.rs (read_inode, inode_find_block): the inode that a number names, and the run of fragments that a block of it is.
+#![tactic(auto)]
+
 ghost use Rattle.std.specs.Prelude.{◌≡◌, ◌+◌, ◌*◌, ◌≤◌, ◌<◌, length};
 ghost use Rattle.frame.specs.Frame.{Frame, InodeIs};
 ghost use Rattle.inode_run.specs.Find.{number_ok, typed, find_inode, found_of};
@@ -11,21 +13,21 @@ use refusal::Refusal;
 use volume::{BlockIdx, FragNum, Geometry, InodeNum};
 
 // Where an inode's record stands, and what it says of how the data lie.
-#[derive(Drop)]
+#[derive(Clone, Copy)]
 pub struct Spot {
     pub at: usize,
     pub shape: Shape,
 }
 
 // The inode that a number names, or a refusal.
-#[derive(Drop)]
+#[derive(Clone, Copy)]
 pub enum Found {
     At(Spot),
     No(Refusal),
 }
 
 // A block of a file: the address of its run, or a hole, and how many bytes it holds.
-#[derive(Drop)]
+#[derive(Clone, Copy)]
 pub enum Run {
     At(FragNum, u64),
     Hole(u64),

@@ -1,4 +1,6 @@
 // ialloc.rs (inode_set_block): a block's address set in its inode, or in the list that holds it.
+#![tactic(auto)]
+
 ghost use Rattle.std.specs.Prelude.{◌≡◌, true, [], ◌∷◌, ◌+◌, ◌*◌, ◌^◌, ◌≤◌, ◌<◌, length};
 ghost use Rattle.field.specs.Field.{part};
 ghost use Rattle.store.specs.Store.{apply};
@@ -14,7 +16,7 @@ use refusal::Refusal;
 use volume::{BlockIdx, FragNum, Geometry};
 
 // The work is done, or a refusal.
-#[derive(Drop)]
+#[derive(Clone, Copy)]
 pub enum Written {
     Done,
     No(Refusal),

@@ -1,4 +1,6 @@
 // ialloc.rs (inode_shrink): a list, and a list of lists, of which the first addresses stay.
+#![tactic(auto)]
+
 ghost use Rattle.std.specs.Prelude.{◌≡◌, true, [], ◌∷◌, ◌+◌, ◌-◌, ◌*◌, ◌≤◌, ◌<◌, length};
 ghost use Rattle.field.specs.Field.{part, put, zeros};
 ghost use Rattle.store.specs.Store.{apply};

@@ -1,4 +1,6 @@
 // ialloc.rs (inode_shrink, inode_truncate): the blocks past a file's new end given back, and its record stored.
+#![tactic(auto)]
+
 ghost use Rattle.std.specs.Prelude.{◌≡◌, ◌+◌, ◌-◌, ◌*◌, ◌≤◌, ◌<◌, length, [], ◌∷◌};
 ghost use Rattle.store.specs.Store.{apply};
 ghost use Rattle.store.specs.Act.{leaves};
@@ -15,7 +17,7 @@ use refusal::Refusal;
 use volume::{BlockIdx, Geometry};
 
 // What truncating answers.
-#[derive(Drop)]
+#[derive(Clone, Copy)]
 pub enum Truncated {
     Done,
     No(Refusal),

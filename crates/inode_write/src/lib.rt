@@ -1,4 +1,6 @@
 // inode.rs (inode_write, inode_write_block), ialloc.rs (inode_alloc_block): writing a file.
+#![tactic(auto)]
+
 ghost use Rattle.std.specs.Prelude.{◌≡◌, ◌+◌, ◌*◌, ◌≤◌, ◌<◌, min, max, leb, length};
 ghost use Rattle.field.specs.Field.{part};
 ghost use Rattle.store.specs.Store.{apply};
@@ -18,14 +20,14 @@ use sound::Taken;
 use volume::{BlockIdx, FragNum, Geometry, InodeNum, Volume};
 
 // The units of 512 bytes that the inode then holds, or a refusal.
-#[derive(Drop)]
+#[derive(Clone, Copy)]
 pub enum Counted {
     Held(u64),
     No(Refusal),
 }
 
 // How many bytes were written, or a refusal.
-#[derive(Drop)]
+#[derive(Clone, Copy)]
 pub enum Wrote {
     Bytes(u64),
     No(Refusal),

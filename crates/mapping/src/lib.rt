@@ -1,4 +1,6 @@
 // inode.rs (decode_blkidx, inode_resolve_block): from a block's index in its file to its address on the disk.
+#![tactic(auto)]
+
 ghost use Rattle.std.specs.Prelude.{◌≡◌, Bool, true, false, ◌+◌, ◌*◌, ◌/◌, ◌%◌, ◌^◌, ◌≤◌, ◌<◌, length};
 ghost use Rattle.frame.specs.Frame.{Frame};
 ghost use Rattle.mapping.specs.Zones.{place_of};
@@ -7,7 +9,7 @@ ghost use Rattle.mapping.specs.Mapping.{per_list, entry_at, list_ok, down, mappe
 use volume::{BlockIdx, FragNum, Geometry};
 
 // Where an index leads: the address in the record, how many lists are gone down, and the place under that address.
-#[derive(Drop)]
+#[derive(Clone, Copy)]
 pub enum Place {
     Under {
         root: u64,
@@ -18,7 +20,7 @@ pub enum Place {
 }
 
 // What the mapping finds.
-#[derive(Drop)]
+#[derive(Clone, Copy)]
 pub enum Mapped {
     At(FragNum),
     Hole,

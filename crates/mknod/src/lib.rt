@@ -1,5 +1,7 @@
 // dir.rs: mknod and mkdir. A name that lookup finds is 17: without that test the outbox held a form twice,
 // and a fitter was sent to a meter already changed.
+#![tactic(auto)]
+
 ghost use Rattle.std.specs.Prelude.{◌≡◌};
 ghost use Rattle.store.specs.Act.{leaves};
 ghost use Rattle.frame.specs.Frame.{Frame};

@@ -1,4 +1,6 @@
 // What mknod and mkdir are judged by, before any store. The Rust never looked whether the name was taken.
+#![tactic(auto)]
+
 ghost use Rattle.std.specs.Prelude.{◌≡◌, ◌+◌, ◌≤◌, ◌<◌, length};
 ghost use Rattle.frame.specs.Frame.{Frame};
 ghost use Rattle.inode_grow.specs.Grow.{growth_out};

@@ -1,8 +1,10 @@
 // What a call answers when it refuses, and the number that FreeBSD's errno.h has for it.
+#![tactic(auto)]
+
 ghost use Rattle.std.specs.Prelude.{◌≡◌};
 ghost use Rattle.refusal.specs.Refusal.{number_of};
 
-#[derive(Drop)]
+#[derive(Clone, Copy)]
 pub enum Refusal {
     // The name is not in the directory.
     NoEntry,

@@ -1,4 +1,6 @@
 // dir.rs: rename. Without replace the Rust looked up the source, and so always answered EEXIST; here it is the target.
+#![tactic(auto)]
+
 ghost use Rattle.std.specs.Prelude.{◌≡◌};
 ghost use Rattle.store.specs.Act.{leaves};
 ghost use Rattle.frame.specs.Frame.{Frame};

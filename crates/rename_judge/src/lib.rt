@@ -1,4 +1,6 @@
 // dir.rs: what rename is judged by, before any store.
+#![tactic(auto)]
+
 ghost use Rattle.std.specs.Prelude.{◌≡◌, true, ◌&&◌, ◌+◌, ◌*◌, ◌≤◌, ◌<◌, length};
 ghost use Rattle.frame.specs.Frame.{Frame};
 ghost use Rattle.inode.specs.Shape.{type_of};
@@ -18,7 +20,7 @@ pub mod found;
 pub mod room;
 
 // What is to be done: nothing, or the inode of that type moved, and whether a record in the way goes first.
-#[derive(Drop)]
+#[derive(Clone, Copy)]
 pub enum Verdict {
     Same(u32),
     Move(u32, u8, bool),
@@ -26,7 +28,7 @@ pub enum Verdict {
 }
 
 // What the call finds: the file by its old name, the record of that name, with replace the record in the way, and the inode in the way.
-#[derive(Drop)]
+#[derive(Clone, Copy)]
 pub struct Met {
     pub moved: Looked,
     pub source: Seen,

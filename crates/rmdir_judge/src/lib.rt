@@ -1,4 +1,6 @@
 // What rmdir is judged by, before any store: the name in its directory, and the "." and ".." of the directory that is to go.
+#![tactic(auto)]
+
 ghost use Rattle.std.specs.Prelude.{◌≡◌, ◌+◌, ◌*◌, ◌≤◌, ◌<◌, length};
 ghost use Rattle.sound.specs.Test.{Sized};
 ghost use Rattle.frame.specs.Frame.{Frame};
@@ -21,7 +23,7 @@ use refusal::Refusal;
 use volume::{Geometry, InodeNum};
 
 // The inode number of the directory that may go, or why it may not.
-#[derive(Drop)]
+#[derive(Clone, Copy)]
 pub enum Removal {
     Dir(u32),
     No(Refusal),

@@ -1,4 +1,6 @@
 // ufs/mod.rs (check): whether an image is a volume that is taken, tested first by every public call.
+#![tactic(auto)]
+
 ghost use Rattle.std.specs.Prelude.{◌≡◌, Bool, true, false, ℕ, ◌+◌, ◌-◌, ◌*◌, ◌/◌, ◌%◌, ◌≤◌, ◌<◌, length, eqb};
 ghost use Rattle.volume.specs.Volume.{geometry_of, byte_at, group_of};
 ghost use Rattle.bits.specs.Bits.{is_frag};
@@ -10,14 +12,14 @@ use refusal::Refusal;
 use volume::{Count, Geometry, Group, Volume};
 
 // A sound volume's geometry, or none.
-#[derive(Drop)]
+#[derive(Clone, Copy)]
 pub enum Taken {
     Sound(Geometry),
     Unsound,
 }
 
 // What opening answers.
-#[derive(Drop)]
+#[derive(Clone, Copy)]
 pub enum Opened {
     Volume(Volume),
     No(Refusal),

@@ -1,5 +1,7 @@
 // Runs the sound test over two small cards and over damaged copies of them: for each clause of 01's "A volume is sound when"
 // what it just takes and what it just refuses. `stdout` has 01's answers.
+#![tactic(auto)]
+
 use field::Order;
 use libc::STDOUT_FILENO;
 

@@ -1,4 +1,6 @@
 // Number fields stored only while the number of stores allows it: for calls that stop after a given number of stores.
+#![tactic(auto)]
+
 ghost use Rattle.std.specs.Prelude.{◌≡◌, [], ◌∷◌, ◌+◌, ◌≤◌, length};
 ghost use Rattle.store.specs.Store.{number, apply_if};
 

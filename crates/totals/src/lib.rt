@@ -1,4 +1,6 @@
 // ufs/mod.rs, update_sb: the superblock's totals are lent, and changed where they stand.
+#![tactic(auto)]
+
 ghost use Rattle.std.specs.Prelude.{◌≡◌};
 ghost use Rattle.totals.specs.Changed.{changed};
 

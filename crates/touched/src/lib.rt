@@ -1,1 +1,2 @@
 // Theorems about the bytes that the calls on an inode may change; no code.
+#![tactic(auto)]

@@ -1,4 +1,6 @@
 // ialloc.rs: inode_truncate, the public call.
+#![tactic(auto)]
+
 ghost use Rattle.std.specs.Prelude.{◌≡◌, ◌+◌, ◌≤◌, length, ltb};
 ghost use Rattle.store.specs.Act.{leaves};
 ghost use Rattle.sound.specs.Test.{Sized};

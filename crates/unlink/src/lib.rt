@@ -1,4 +1,6 @@
 // dir.rs: unlink. Its inode may be a directory, as in the Rust.
+#![tactic(auto)]
+
 ghost use Rattle.std.specs.Prelude.{◌≡◌};
 ghost use Rattle.store.specs.Act.{leaves};
 ghost use Rattle.frame.specs.Frame.{Frame};

@@ -1,4 +1,6 @@
 // What unlink is judged by, before any store.
+#![tactic(auto)]
+
 ghost use Rattle.std.specs.Prelude.{◌≡◌, ◌+◌, ◌*◌, ◌≤◌, ◌<◌, length};
 ghost use Rattle.frame.specs.Frame.{Frame};
 ghost use Rattle.inode_grow.specs.Grow.{growth_out};

@@ -1,19 +1,21 @@
 // data.rs, ufs/mod.rs: the kinds of number, the open volume, and the records of superblock and group.
+#![tactic(auto)]
+
 ghost use Rattle.std.specs.Prelude.{◌≡◌, ◌+◌, ◌*◌, ◌/◌, ◌%◌, ◌≤◌, ◌<◌, length};
 ghost use Rattle.volume.specs.Volume.{geometry_of, byte_at, cg_at, inode_at, magic_at, group_magic_at, group_of, count_at, put_count, counts_of, total_at, put_total, totals_of, count_place, total_place};
 
 use field::Order;
 
 // An inode's number.
-#[derive(Drop)]
+#[derive(Clone, Copy)]
 pub struct InodeNum(pub u32);
 
 // The number of a fragment of the disk, an address.
-#[derive(Drop)]
+#[derive(Clone, Copy)]
 pub struct FragNum(pub u64);
 
 // The index of a block in its file.
-#[derive(Drop)]
+#[derive(Clone, Copy)]
 pub struct BlockIdx(pub u64);
 
 impl InodeNum {
@@ -22,13 +24,13 @@ impl InodeNum {
 }
 
 // A volume as it was opened.
-#[derive(Drop)]
+#[derive(Clone, Copy)]
 pub struct Volume {
     pub writable: bool,
 }
 
 // What the superblock says of where things lie. The order is that of every number on the volume.
-#[derive(Drop)]
+#[derive(Clone, Copy)]
 pub struct Geometry {
     pub order: Order,
     pub sblkno: u32,
@@ -44,7 +46,7 @@ pub struct Geometry {
 }
 
 // The part of a group's record that no call changes.
-#[derive(Drop)]
+#[derive(Clone, Copy)]
 pub struct Group {
     pub ndblk: u32,
     pub iusedoff: u32,
@@ -52,7 +54,7 @@ pub struct Group {
 }
 
 // Which of the counts: free blocks, free inodes, or free fragments outside of free blocks.
-#[derive(Drop)]
+#[derive(Clone, Copy)]
 pub enum Count {
     Nbfree,
     Nifree,
@@ -60,7 +62,7 @@ pub enum Count {
 }
 
 // A group's counts. They are signed on the disk and kept here modulo 2^32.
-#[derive(Drop)]
+#[derive(Clone, Copy)]
 pub struct Counts {
     pub nbfree: u32,
     pub nifree: u32,
@@ -68,7 +70,7 @@ pub struct Counts {
 }
 
 // The superblock's counts, kept modulo 2^64.
-#[derive(Drop)]
+#[derive(Clone, Copy)]
 pub struct Totals {
     pub nbfree: u64,
     pub nifree: u64,

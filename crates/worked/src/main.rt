@@ -1,4 +1,6 @@
 // 01's worked numbers, run: the map lines, the one that is not starred among them, and the index past the last one.
+#![tactic(auto)]
+
 ghost use Rattle.std.specs.Prelude.{◌<◌};
 
 use bits::Found;

@@ -1,1 +1,2 @@
 // Theorems about what is read after a write to a file; no code.
+#![tactic(auto)]

@@ -1,4 +1,6 @@
 // xattr.rs: the extended attributes of an inode, listed and read.
+#![tactic(auto)]
+
 ghost use Rattle.std.specs.Prelude.{◌≡◌, ◌+◌, ◌-◌, ◌≤◌, ◌<◌, length};
 ghost use Rattle.frame.specs.Frame.{Frame};
 ghost use Rattle.attrrec.specs.Record.{gap, value_len};
@@ -15,7 +17,7 @@ pub mod list;
 pub mod walk;
 
 // The attribute area of an inode: how many bytes, how many of them lie in the first block, and where the two parts begin.
-#[derive(Drop)]
+#[derive(Clone, Copy)]
 pub struct Area {
     pub size: usize,
     pub split: usize,
@@ -24,35 +26,35 @@ pub struct Area {
 }
 
 // Where the area lies, or damage.
-#[derive(Drop)]
+#[derive(Clone, Copy)]
 pub enum Lies {
     In(Area),
     Bad,
 }
 
 // Where the needed bytes of a block begin, or damage.
-#[derive(Drop)]
+#[derive(Clone, Copy)]
 pub enum Block {
     At(usize),
     Bad,
 }
 
 // An attribute that was asked for, its area and its place there, or a refusal.
-#[derive(Drop)]
+#[derive(Clone, Copy)]
 pub enum Hit {
     At(Area, usize, Entry),
     No(Refusal),
 }
 
 // How many bytes, or a refusal.
-#[derive(Drop)]
+#[derive(Clone, Copy)]
 pub enum Length {
     Bytes(u32),
     No(Refusal),
 }
 
 // Where a value begins and ends in the lent buffer, or a refusal.
-#[derive(Drop)]
+#[derive(Clone, Copy)]
 pub enum Value {
     At(usize, usize),
     No(Refusal),

@@ -1,0 +1,25 @@
+-- `field::zero_bytes` meets its contract: after i turns the first i zeros are written. Assumes nothing.
+use borrow.Author.Rules.{rules}
+use mathlib.Core.Path.{◌≡◌}
+use native.Mathlib.Numerals.{add-one}
+use native.Mathlib.Omega.{arith}
+use Prim.Native.Nat.{◌-◌, ◌≤◌}
+use lib.ListN.{length, take}
+use lib.Seq.{take_all}
+use Rattle.field.specs.Field.{zeros, put}
+use Rattle.field.proofs.Laws.{put-none, length-zeros, put-zeros-more}
+use Rattle.field.proofs.zero_bytes.Goals as goal
+
+pub loop-i-init : goal.loop-i-init
+loop-i-init c = (search rules, search rules, rw put-none)
+
+pub loop-i-preserved : goal.loop-i-preserved
+loop-i-preserved c =
+    let s = c.args in
+    (search rules, search rules, rw (add-one, put-zeros-more s.at s.n s.dst.now c.loop-i.i (omega arith)) (cc))
+
+pub returns : goal.returns
+returns c =
+    let s = c.args in
+    let l = length-zeros s.n in
+    cc (take_all c.loop-i.i (zeros s.n) (omega arith))

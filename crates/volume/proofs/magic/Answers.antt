@@ -1,0 +1,8 @@
+-- `magic` meets its contract. Assumes nothing.
+use borrow.Author.Rules.{rules}
+use Rattle.volume.specs.Volume.{magic_at}
+use Rattle.volume.proofs.magic.Goals as goal
+
+pub returns : goal.returns
+unfolding magic_at
+returns c = c.get_u32.ensures

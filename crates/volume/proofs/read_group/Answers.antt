@@ -1,0 +1,8 @@
+-- `read_group` meets its contract. Assumes nothing.
+use borrow.Author.Rules.{rules}
+use Rattle.volume.specs.Volume.{group_of}
+use Rattle.volume.proofs.read_group.Goals as goal
+
+pub returns : goal.returns
+unfolding group_of
+returns c = rw (c.get_u32.ensures, c.get_u32-2.ensures, c.get_u32-3.ensures)
