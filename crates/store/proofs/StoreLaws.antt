@@ -103,12 +103,12 @@ module _ (o : Order) (n at v : ℕ) where
 put-there : {w : Write} {img : List ℕ} → There img w → put w.at w.bytes img ≡ img
 put-there {w} {img} t = ap (λ (vs : List ℕ). put w.at vs img) (sym t.same) ∙ put-part (length w.bytes) w.at img t.fits
 
-pub apply-same : {s : Store} {img : List ℕ} → All (There img) s → apply s img ≡ img
+pub apply-same : {img : List ℕ} {s : Store} → All (There img) s → apply s img ≡ img
 unfolding apply
 apply-same none = refl
 apply-same {s = w ∷ s} (more t ts) = ap (apply s) (put-there t) ∙ apply-same ts
 
-pub apply_all-same : {ss : List Store} {img : List ℕ} → All (All (There img)) ss → apply_all ss img ≡ img
+pub apply_all-same : {img : List ℕ} {ss : List Store} → All (All (There img)) ss → apply_all ss img ≡ img
 unfolding apply_all
 apply_all-same none = refl
 apply_all-same {ss = s ∷ ss} (more t ts) = ap (apply_all ss) (apply-same t) ∙ apply_all-same ts

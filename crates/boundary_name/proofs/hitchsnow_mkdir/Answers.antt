@@ -1,0 +1,8 @@
+-- `hitchsnow_mkdir` meets its contract: the call, and the words of its answer. Assumes nothing.
+use borrow.Author.Rules.{rules}
+use Rattle.boundary.proofs.WordsLaws.{passed}
+use Rattle.boundary_file.specs.Words.{changed_words}
+use Rattle.boundary_name.proofs.hitchsnow_mkdir.Goals as goal
+
+pub returns : goal.returns
+returns c = passed changed_words c.mkdir-m.ensures c.put_made.ensures

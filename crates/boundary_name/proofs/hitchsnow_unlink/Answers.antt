@@ -1,0 +1,8 @@
+-- `hitchsnow_unlink` meets its contract: the call, and the words of its answer. Assumes nothing.
+use borrow.Author.Rules.{rules}
+use Rattle.boundary.proofs.WordsLaws.{passed}
+use Rattle.boundary_file.specs.Words.{done_word}
+use Rattle.boundary_name.proofs.hitchsnow_unlink.Goals as goal
+
+pub returns : goal.returns
+returns c = passed done_word c.unlink-w.ensures c.done_number.ensures

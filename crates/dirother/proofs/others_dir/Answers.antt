@@ -1,0 +1,32 @@
+-- `others_dir` meets its contract: no block passed holds another record. Assumes nothing.
+use borrow.Author.Rules.{rules}
+use borrow.Author.Tests.{eqb-true, eqb-false, not-true, not-false}
+use native.Mathlib.Omega.{arith}
+use mathlib.Core.Path.{◌≡◌, sym, ap, ◌∙◌}
+use Prim.Native.Nat.{◌-◌, ◌≤◌}
+use Rattle.dirfile.specs.Seek.{seek_from}
+use Rattle.dirfile.proofs.SeekLaws.{said, seek-here, seek-hurt, seek-next, seek-end}
+use Rattle.dirother.specs.Other.{others_dir, others_out}
+use Rattle.dirother.proofs.OtherLaws.{others, others-start, others-odd}
+use Rattle.dirother.proofs.others_dir.Goals as goal
+
+pub returns-then-not-size : goal.returns-then-not-size
+returns-then-not-size c = others-odd _ _ _ _ (eqb-false _ _ (c.if-not-size.true))
+
+pub loop-k-init : goal.loop-k-init
+loop-k-init c = (omega arith, others-start _ _ _ _ (eqb-true _ _ (c.if-not-size.false)))
+
+pub other_block-requires : goal.other_block-requires
+other_block-requires c = let p = c.requires in (p.0, p.1, omega (arith, c.loop-k-test.true))
+
+pub returns-in-Some : goal.returns-in-Some
+returns-in-Some c = sym (seek-here _ _ _ c.loop-k-test.true _ (sym c.other_block.ensures ∙ ap others_out c.in-Some.is)) ∙ c.loop-k.invariant.1
+
+pub returns-in-Bad : goal.returns-in-Bad
+returns-in-Bad c = sym (seek-hurt _ _ _ c.loop-k-test.true (sym c.other_block.ensures ∙ ap others_out c.in-Bad.is)) ∙ c.loop-k.invariant.1
+
+pub loop-k-preserved : goal.loop-k-preserved
+loop-k-preserved c = (omega (arith, c.loop-k-test.true), sym (seek-next _ _ _ c.loop-k-test.true (sym c.other_block.ensures ∙ ap others_out c.in-None.is)) ∙ c.loop-k.invariant.1)
+
+pub returns : goal.returns
+returns c = sym (seek-end _ _ _ c.loop-k-test.false) ∙ c.loop-k.invariant.1

@@ -1,0 +1,13 @@
+-- `glyph` meets its contract. Assumes nothing.
+use borrow.Author.Rules.{rules}
+use borrow.Author.Tests.{lt-ltb, le-ltb}
+use Rattle.dirtext.specs.Text.{glyph_of}
+use Rattle.dirtext.proofs.glyph.Goals as goal
+
+pub returns-then-d-lt10 : goal.returns-then-d-lt10
+unfolding glyph_of
+returns-then-d-lt10 c = rw (lt-ltb _ _ c.if-d-lt10.true)
+
+pub returns-else-d-lt10 : goal.returns-else-d-lt10
+unfolding glyph_of
+returns-else-d-lt10 c = rw (le-ltb _ _ c.if-d-lt10.false)

@@ -1,0 +1,10 @@
+-- `put_blocks` meets its contract. Assumes nothing.
+use borrow.Author.Rules.{rules}
+use mathlib.Core.Path.{sym, ◌∙◌}
+use Rattle.store.proofs.StoreLaws.{apply-number}
+use Rattle.inode.specs.Places.{blocks_write}
+use Rattle.inode.proofs.put_blocks.Goals as goal
+
+pub returns : goal.returns
+unfolding blocks_write
+returns c = c.put_u64.ensures ∙ sym (apply-number _ _ _ _ _)

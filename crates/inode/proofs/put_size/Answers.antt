@@ -1,0 +1,10 @@
+-- `put_size` meets its contract. Assumes nothing.
+use borrow.Author.Rules.{rules}
+use mathlib.Core.Path.{sym, ◌∙◌}
+use Rattle.store.proofs.StoreLaws.{apply-number}
+use Rattle.inode.specs.Places.{size_write}
+use Rattle.inode.proofs.put_size.Goals as goal
+
+pub returns : goal.returns
+unfolding size_write
+returns c = c.put_u64.ensures ∙ sym (apply-number _ _ _ _ _)

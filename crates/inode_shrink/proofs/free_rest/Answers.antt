@@ -1,0 +1,61 @@
+-- `free_rest` meets its contract: the addresses from i on, in the image as it is, lead to what all of them lead to at first. Assumes nothing.
+use borrow.Author.Rules.{rules}
+use mathlib.Core.Path.{◌≡◌, refl, sym, ap, ◌∙◌}
+use mathlib.Core.List.{List}
+use native.Mathlib.Omega.{arith}
+use Prim.Native.Nat.{ℕ, ◌+◌, ◌-◌, ◌≤◌, ◌<◌}
+use Rattle.store.specs.Act.{Out, got, refused, Act, each, leaves}
+use Rattle.volume.specs.declared.Geometry.{Geometry}
+use Rattle.inode.specs.declared.Shape.{Shape}
+use Rattle.inode.proofs.SizeLaws.{units}
+use Rattle.mapping.specs.Mapping.{per_list, list_ok}
+use Rattle.books.specs.Books.{Steady}
+use Rattle.books.proofs.SteadyLaws.{steady-refl, steady-trans, steady-run}
+use Rattle.books.proofs.KeepLaws.{kept-left}
+use Rattle.ialloc_tree.specs.Tree.{at_entry, free_tree, freed_out}
+use Rattle.ialloc_tree.proofs.TreeLaws.{list-good, list-bad, list-end, keeps-tree}
+use Rattle.inode_shrink.specs.Shrink.{free_rest}
+use Rattle.inode_shrink.proofs.ShrinkLaws.{rest-left}
+use Rattle.inode_shrink.proofs.free_rest.Goals as goal
+
+record Going (geo : Geometry) (s : Shape) (a base u held : ℕ) (start img : List ℕ) (left i : ℕ) : Type 0 where
+  pub steady : Steady geo start img
+  pub same : leaves (each (at_entry (λ e i h. free_tree geo s 0 e (base + i) h) geo a) (per_list geo - i) i left) img ≡ leaves (free_rest geo s a base u held) start
+
+pub per_list-per-requires : goal.per_list-per-requires
+per_list-per-requires c = (units _ c.requires.0.sizes).block_top
+
+pub loop-i-init : goal.loop-i-init
+loop-i-init c = record { steady = steady-refl _ _ c.requires.0; same = rest-left _ _ _ _ _ _ _ }
+
+pub entry-next-requires : goal.entry-next-requires
+entry-next-requires c =
+    (c.loop-i.invariant.steady.frame, steady-run _ c.loop-i.invariant.steady _ _ ∙ c.requires.1, rw (← c.per_list-per.ensures.0) c.loop-i-test.true)
+
+pub overflow_add-base : goal.overflow_add-base
+overflow_add-base c =
+    omega (arith, c.loop-i-test.true, c.per_list-per.ensures.1, c.requires.2)
+
+pub free_address-requires : goal.free_address-requires
+free_address-requires c = c.loop-i.invariant.steady.frame
+
+pub returns-in-No : goal.returns-in-No
+returns-in-No c =
+    list-bad _ _ _ _ c.per_list-per.ensures.0 _ _ _ _ c.loop-i.invariant.same c.loop-i-test.true _ c.entry-next.ensures c.free_address.ensures (ap freed_out c.in-No.is)
+
+pub overflow_add-i : goal.overflow_add-i
+overflow_add-i c =
+    omega (arith, c.loop-i-test.true, c.per_list-per.ensures.1)
+
+pub loop-i-smaller : goal.loop-i-smaller
+loop-i-smaller c = omega (arith, c.loop-i-test.true)
+
+pub loop-i-preserved : goal.loop-i-preserved
+loop-i-preserved c =
+    record {
+      steady = steady-trans _ c.loop-i.invariant.steady (kept-left _ (keeps-tree _ _ _ _ _ _) c.loop-i.invariant.steady.frame c.free_address.ensures);
+      same = list-good _ _ _ _ c.per_list-per.ensures.0 _ _ _ _ c.loop-i.invariant.same c.loop-i-test.true _ c.entry-next.ensures c.free_address.ensures (ap freed_out c.in-Held.is);
+    }
+
+pub returns : goal.returns
+returns c = list-end _ _ _ _ c.per_list-per.ensures.0 _ _ _ _ c.loop-i.invariant.same c.loop-i-test.false

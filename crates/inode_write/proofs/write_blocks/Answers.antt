@@ -1,0 +1,86 @@
+-- `write_blocks` meets its contract: after each turn the blocks before block i are written. Assumes nothing.
+use borrow.Author.Rules.{rules}
+use mathlib.Core.Path.{◌≡◌, ap}
+use mathlib.Core.List.{List}
+use native.Mathlib.Omega.{arith}
+use Prim.Native.Nat.{ℕ, ◌-◌, ◌≤◌, ◌<◌, min}
+use lib.ListN.{length}
+use Rattle.volume.specs.declared.Geometry.{Geometry}
+use Rattle.inode_read.proofs.ReachLaws.{block-some}
+use Rattle.inode_read.proofs.ReadLaws.{Turn, Piece, turn-start, turn-next, turn_small, turn-piece}
+use Rattle.books.specs.Books.{Steady}
+use Rattle.books.proofs.SteadyLaws.{steady-refl, steady-trans}
+use Rattle.books.proofs.KeepLaws.{kept-left}
+use Rattle.inode_write.specs.Write.{counted_out}
+use Rattle.inode_write.proofs.WriteLaws.{Rest, rest-start, rest-next, rest-stop, rest_end}
+use Rattle.inode_write.proofs.WriteKeeps.{keeps_piece}
+use Rattle.inode_write.proofs.write_blocks.Goals as goal
+
+-- in the loop: `done` bytes are written, and the blocks from i on, in the image as it is, lead to what all of them lead to at first
+record Going (geo : Geometry) (at size off : ℕ) (buf : List ℕ) (held : ℕ) (start img : List ℕ) (i from done all : ℕ) : Type 0 where
+  pub some : 0 < geo.bsize
+  pub upto : done ≤ length buf
+  pub turn : Turn geo.bsize off (length buf) i from done
+  pub steady : Steady geo start img
+  pub rest : Rest geo at size off buf some img i all start held
+
+-- what the turn writes
+piece : {geo : Geometry} {at size off : ℕ} {buf : List ℕ} {held : ℕ} {start img : List ℕ} {i from done all : ℕ} → Going geo at size off buf held start img i from done all
+    → done < length buf → (num : ℕ) → num ≡ min (geo.bsize - from) (length buf - done) → Piece geo.bsize off (length buf) i from done num
+piece g l num e = turn-piece _ _ _ g.some _ _ _ g.turn l num e
+
+pub nonzero_div-i : goal.nonzero_div-i
+nonzero_div-i c = block-some _ c.requires.0.sizes
+
+pub nonzero_rem-from : goal.nonzero_rem-from
+nonzero_rem-from c = block-some _ c.requires.0.sizes
+
+pub loop-done-init : goal.loop-done-init
+loop-done-init c =
+    let k = c.requires in
+    let b = block-some _ k.0.sizes in
+    record { nonzero_rem-from = b; upto = omega arith; turn = turn-start _ _ _ b k.3; steady = steady-refl _ _ k.0; rest = rest-start _ _ _ _ _ b _ _ }
+
+pub overflow_sub-geo : goal.overflow_sub-geo
+overflow_sub-geo c = omega (arith, c.loop-done.invariant.turn.inside c.loop-done-test.true)
+
+pub write_block-requires : goal.write_block-requires
+write_block-requires c =
+    let k = c.requires in
+    let g = c.loop-done.invariant in
+    let p = piece g c.loop-done-test.true _ c.least-num.ensures in
+    (g.steady.frame, omega (arith, g.steady.long, k.1), k.2, p.some, p.within_block, omega (arith, p.reach, k.4), p.asked)
+
+pub returns-in-No : goal.returns-in-No
+returns-in-No c =
+    let g = c.loop-done.invariant in
+    rest-stop _ _ _ _ _ g.some _ _ _ _ _ g.turn _ _ g.rest c.loop-done-test.true _ c.least-num.ensures c.write_block.ensures (ap counted_out c.in-No.is)
+
+pub overflow_add-done : goal.overflow_add-done
+overflow_add-done c = omega (arith, (piece c.loop-done.invariant c.loop-done-test.true _ c.least-num.ensures).asked)
+
+pub overflow_add-i : goal.overflow_add-i
+overflow_add-i c =
+    let g = c.loop-done.invariant in
+    omega (arith, turn_small _ _ _ g.some _ _ _ g.turn c.loop-done-test.true, c.requires.4)
+
+pub loop-done-smaller : goal.loop-done-smaller
+loop-done-smaller c = omega (arith, c.loop-done-test.true, (piece c.loop-done.invariant c.loop-done-test.true _ c.least-num.ensures).some)
+
+pub loop-done-preserved : goal.loop-done-preserved
+loop-done-preserved c =
+    let k = c.requires in
+    let g = c.loop-done.invariant in
+    let l = c.loop-done-test.true in
+    let e = c.least-num.ensures in
+    let p = piece g l _ e in
+    record {
+      nonzero_rem-from = g.some;
+      upto = p.asked;
+      turn = turn-next _ _ _ g.some _ _ _ g.turn l _ e;
+      steady = steady-trans _ g.steady (kept-left _ (keeps_piece _ _ k.2 _ _ _ _ _ _ p.some p.within_block (omega (arith, p.reach, k.4)) p.asked _) g.steady.frame c.write_block.ensures);
+      rest = rest-next _ _ _ _ _ g.some _ _ _ _ _ g.turn _ _ g.rest l _ e c.write_block.ensures (ap counted_out c.in-Held.is);
+    }
+
+pub returns : goal.returns
+returns c = let g = c.loop-done.invariant in rest_end _ _ _ _ _ g.some _ _ _ _ _ g.turn _ _ g.rest (omega (arith, c.loop-done-test.false))

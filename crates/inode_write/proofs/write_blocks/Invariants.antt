@@ -1,0 +1,23 @@
+-- `write_blocks` meets its contract: after each turn the blocks before block i are written. Assumes nothing.
+use borrow.Author.Rules.{rules}
+use mathlib.Core.Path.{◌≡◌, ap}
+use mathlib.Core.List.{List}
+use native.Mathlib.Omega.{arith}
+use Prim.Native.Nat.{ℕ, ◌-◌, ◌≤◌, ◌<◌, min}
+use lib.ListN.{length}
+use Rattle.volume.specs.declared.Geometry.{Geometry}
+use Rattle.inode_read.proofs.ReachLaws.{block-some}
+use Rattle.inode_read.proofs.ReadLaws.{Turn, Piece, turn-start, turn-next, turn_small, turn-piece}
+use Rattle.books.specs.Books.{Steady}
+use Rattle.books.proofs.SteadyLaws.{steady-refl, steady-trans}
+use Rattle.books.proofs.KeepLaws.{kept-left}
+use Rattle.inode_write.specs.Write.{counted_out}
+use Rattle.inode_write.proofs.WriteLaws.{Rest, rest-start, rest-next, rest-stop, rest_end}
+use Rattle.inode_write.proofs.WriteKeeps.{keeps_piece}
+use Rattle.inode_write.proofs.write_blocks.Given as goal
+
+abbrev pub invariant-loop-done : goal.invariant-loop-done
+invariant-loop-done l = Going l.geo l.at l.size l.off l.buf l.held l.initial.img l.img l.i l.from l.done l.all
+
+abbrev pub decreases-loop-done : goal.decreases-loop-done
+decreases-loop-done l = l.n - l.done

@@ -1,0 +1,10 @@
+-- `per_list` meets its contract. Assumes nothing.
+use borrow.Author.Rules.{rules}
+use mathlib.Core.Path.{refl}
+use native.Mathlib.Omega.{arith}
+use Rattle.mapping.specs.Mapping.{per_list}
+use Rattle.mapping.proofs.per_list.Goals as goal
+
+pub returns : goal.returns
+unfolding per_list
+returns c = (refl, omega arith)

@@ -1,0 +1,15 @@
+-- `mkdir_in` meets its contract. Assumes nothing.
+use borrow.Author.Rules.{rules}
+use mathlib.Core.Path.{sym, ap, ◌∙◌}
+use Rattle.inode_grow.specs.Grow.{growth_out}
+use Rattle.mknod.proofs.MakeLaws.{name-few, mkdir-free, mkdir-refused}
+use Rattle.mknod.proofs.mkdir_in.Goals as goal
+
+pub make_dir-requires : goal.make_dir-requires
+make_dir-requires c = (c.requires, name-few _ _ _ _ _ c.requires c.judge_make.ensures (ap growth_out c.in-Free.is))
+
+pub returns-in-Free : goal.returns-in-Free
+returns-in-Free c = c.make_dir.ensures ∙ mkdir-free _ _ _ _ _ _ _ _ (sym c.judge_make.ensures ∙ ap growth_out c.in-Free.is) c.new_inode-new.ensures
+
+pub returns-in-No : goal.returns-in-No
+returns-in-No c = mkdir-refused _ _ _ _ _ _ _ _ (sym c.judge_make.ensures ∙ ap growth_out c.in-No.is)
