@@ -44,6 +44,17 @@ FIELDS = {
     "used-at": "used_from",
 }
 
+# Words inside names that are declared in a section of a file: each is in snake case wherever a proof or a page has it.
+WITHIN = """
+applyAll applyIf bitAt bufAt byteAt fieldAt getD inRecord inodeAt inodeOut itsOk leftAhead leftBehind metBy putBitsAt putCount putField
+putNum putTotal
+""".split()
+
+
+def within(name):
+    parts = ["get_or" if p == "getD" else snake(p) if p in WITHIN else p for p in name.split("-")]
+    return "-".join(parts)
+
 
 def snake(word):
     """fooBar -> foo_bar; a word in capitals or with a capital in front stays."""
@@ -151,7 +162,7 @@ def main():
     turn = table()
 
     def word(m):
-        return turn.get(m.group(0), m.group(0))
+        return turn.get(m.group(0)) or within(m.group(0))
 
     changed = 0
     for f in files("crates/**/*.antt", "crates/*/src/*.rt", "crates/*/must-fail/*.edit", "docs/*.md", "README.md"):

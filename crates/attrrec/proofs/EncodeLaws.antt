@@ -7,7 +7,7 @@ use native.Mathlib.Omega.{arith}
 use lib.ListN.{length}
 use Rattle.field.specs.declared.Order.{Order}
 use Rattle.field.specs.Field.{num, put, put_num, zeros, Kept}
-use Rattle.field.proofs.Laws.{length-put, length-put_num, length-zeros, num-put_num, num-putNum-before, part-put, part-put-apart, kept_trans, kept_wider, kept-put, kept-put_num, kept-num}
+use Rattle.field.proofs.Laws.{length-put, length-put_num, length-zeros, num-put_num, num-put_num-before, part-put, part-put-apart, kept_trans, kept_wider, kept-put, kept-put_num, kept-num}
 use Rattle.attrrec.specs.declared.Entry.{Entry}
 use Rattle.attrrec.specs.declared.Attr.TheVariants.{Is}
 use Rattle.attrrec.specs.Record.{entry_at, name_at, gap, value_len, value_at, judged, attr_at}
@@ -52,16 +52,16 @@ module _ (o : Order) (b : ℕ) (e : Entry) (area : List ℕ) where
       let l2 : length b2 ≡ length b1 = length-put_num o 1 (b + 4) e.namespace b1 in
       let l3 : length b3 ≡ length b2 = length-put_num o 1 (b + 5) e.pad b2 in
       let l : num o 4 b (put_num o 1 (b + 6) e.namelen b3) ≡ e.len =
-      num-putNum-before o 1 (b + 6) e.namelen b3 o 4 b (omega arith)
-      ∙ num-putNum-before o 1 (b + 5) e.pad b2 o 4 b (omega arith)
-      ∙ num-putNum-before o 1 (b + 4) e.namespace b1 o 4 b (omega arith)
+      num-put_num-before o 1 (b + 6) e.namelen b3 o 4 b (omega arith)
+      ∙ num-put_num-before o 1 (b + 5) e.pad b2 o 4 b (omega arith)
+      ∙ num-put_num-before o 1 (b + 4) e.namespace b1 o 4 b (omega arith)
       ∙ num-put_num o 4 b e.len area w.len (omega arith) in
       let s : num o 1 (b + 4) (put_num o 1 (b + 6) e.namelen b3) ≡ e.namespace =
-      num-putNum-before o 1 (b + 6) e.namelen b3 o 1 (b + 4) (omega arith)
-      ∙ num-putNum-before o 1 (b + 5) e.pad b2 o 1 (b + 4) (omega arith)
+      num-put_num-before o 1 (b + 6) e.namelen b3 o 1 (b + 4) (omega arith)
+      ∙ num-put_num-before o 1 (b + 5) e.pad b2 o 1 (b + 4) (omega arith)
       ∙ num-put_num o 1 (b + 4) e.namespace b1 w.namespace (omega arith) in
       let p : num o 1 (b + 5) (put_num o 1 (b + 6) e.namelen b3) ≡ e.pad =
-      num-putNum-before o 1 (b + 6) e.namelen b3 o 1 (b + 5) (omega arith)
+      num-put_num-before o 1 (b + 6) e.namelen b3 o 1 (b + 5) (omega arith)
       ∙ num-put_num o 1 (b + 5) e.pad b2 w.pad (omega arith) in
       let n : num o 1 (b + 6) (put_num o 1 (b + 6) e.namelen b3) ≡ e.namelen = num-put_num o 1 (b + 6) e.namelen b3 w.namelen (omega arith) in
       rw (l, s, p, n)

@@ -21,7 +21,7 @@ use Rattle.volume.specs.declared.Count.TheVariants.{Nbfree, Nifree, Nffree}
 use Rattle.volume.specs.Signed.{signed}
 use Rattle.volume.specs.Volume.{sb_at, geometry_of, cg_at, count_place, count_at, put_count, total_place, total_at, put_total}
 use Rattle.volume.proofs.SignedLaws.{signed-pos}
-use Rattle.volume.proofs.Laws.{count-place, total-place, length-putCount, length-putTotal, kept-putCount, kept-putTotal, count-putCount, count-putCount-other, total-putTotal, total-putTotal-other, kept-count}
+use Rattle.volume.proofs.Laws.{count-place, total-place, length-put_count, length-put_total, kept-put_count, kept-put_total, count-put_count, count-put_count-other, total-put_total, total-put_total-other, kept-count}
 use Rattle.bits.specs.Upto.{sum}
 use Rattle.bits.proofs.UptoLaws.{sum-none, sum-more}
 use Rattle.sound.specs.Clauses.{soundb}
@@ -230,15 +230,15 @@ module _ (geo : Geometry) (img : List ℕ) (fr : Frame geo img) where
       let o : (d : Count) → frame.Outside (cg_at geo g + count_place d) 4 (cg_at geo h + count_place c) 4 = λ d.
       let p = count-place d in record_apart geo img fr g (count_place d) 4 h (count_place c) 4 lg lh (omega arith) (omega arith) (λ e. absurd (ne e)) in
       ap (count_at geo.order c (cg_at geo h)) (apply-group geo img g zs)
-      ∙ kept-count (kept-putCount geo.order Nffree (cg_at geo g) (loose_of geo g img) _) geo.order c (cg_at geo h) (o Nffree)
-      ∙ kept-count (kept-putCount geo.order Nbfree (cg_at geo g) (blocks_of geo g img) zs) geo.order c (cg_at geo h) (o Nbfree)
+      ∙ kept-count (kept-put_count geo.order Nffree (cg_at geo g) (loose_of geo g img) _) geo.order c (cg_at geo h) (o Nffree)
+      ∙ kept-count (kept-put_count geo.order Nbfree (cg_at geo g) (blocks_of geo g img) zs) geo.order c (cg_at geo h) (o Nbfree)
 
   totals-elsewhere : (h : ℕ) (c : Count) (zs : List ℕ) → h < geo.ncg → count_at geo.order c (cg_at geo h) (apply (total_store geo img) zs) ≡ count_at geo.order c (cg_at geo h) zs
   totals-elsewhere h c zs l =
       let s = spots geo img fr h l in
       ap (count_at geo.order c (cg_at geo h)) (apply-totals geo img zs)
-      ∙ kept-count (kept-putTotal geo.order Nffree (total_loose geo img) _) geo.order c (cg_at geo h) (let p = total-place Nffree in inr (omega arith))
-      ∙ kept-count (kept-putTotal geo.order Nbfree (total_blocks geo img) zs) geo.order c (cg_at geo h) (let p = total-place Nbfree in inr (omega arith))
+      ∙ kept-count (kept-put_total geo.order Nffree (total_loose geo img) _) geo.order c (cg_at geo h) (let p = total-place Nffree in inr (omega arith))
+      ∙ kept-count (kept-put_total geo.order Nbfree (total_blocks geo img) zs) geo.order c (cg_at geo h) (let p = total-place Nbfree in inr (omega arith))
 
   -- what is stored is read
   not_both : Nffree ≡ Nbfree → ⊥
@@ -249,11 +249,11 @@ module _ (geo : Geometry) (img : List ℕ) (fr : Frame geo img) where
   group-read g zs l e =
       let s = spots geo img fr g l in
       let ys = put_count geo.order Nbfree (cg_at geo g) (blocks_of geo g img) zs in
-      let m = length-putCount geo.order Nbfree (cg_at geo g) (blocks_of geo g img) zs in
+      let m = length-put_count geo.order Nbfree (cg_at geo g) (blocks_of geo g img) zs in
       rw (apply-group geo img g zs) (
-        count-putCount-other geo.order Nffree (cg_at geo g) (loose_of geo g img) ys Nbfree not_both
-            ∙ count-putCount geo.order Nbfree (cg_at geo g) (blocks_of geo g img) zs (omega (arith, blocks-small geo img fr g l)) (omega arith),
-        count-putCount geo.order Nffree (cg_at geo g) (loose_of geo g img) ys (omega (arith, loose-small geo img fr g l)) (omega arith),
+        count-put_count-other geo.order Nffree (cg_at geo g) (loose_of geo g img) ys Nbfree not_both
+            ∙ count-put_count geo.order Nbfree (cg_at geo g) (blocks_of geo g img) zs (omega (arith, blocks-small geo img fr g l)) (omega arith),
+        count-put_count geo.order Nffree (cg_at geo g) (loose_of geo g img) ys (omega (arith, loose-small geo img fr g l)) (omega arith),
       )
 
   groups-read : (n : ℕ) → n ≤ geo.ncg → (g : ℕ) → g < n
@@ -272,11 +272,11 @@ module _ (geo : Geometry) (img : List ℕ) (fr : Frame geo img) where
   totals-read zs e =
       let b = fr.laid.low in
       let ys = put_total geo.order Nbfree (total_blocks geo img) zs in
-      let m = length-putTotal geo.order Nbfree (total_blocks geo img) zs in
+      let m = length-put_total geo.order Nbfree (total_blocks geo img) zs in
       rw (apply-totals geo img zs) (
-        total-putTotal-other geo.order Nffree (total_loose geo img) ys Nbfree not_both
-            ∙ total-putTotal geo.order Nbfree (total_blocks geo img) zs (omega (arith, total-blocks-small geo img fr)) (omega arith),
-        total-putTotal geo.order Nffree (total_loose geo img) ys (omega (arith, total-loose-small geo img fr)) (omega arith),
+        total-put_total-other geo.order Nffree (total_loose geo img) ys Nbfree not_both
+            ∙ total-put_total geo.order Nbfree (total_blocks geo img) zs (omega (arith, total-blocks-small geo img fr)) (omega arith),
+        total-put_total geo.order Nffree (total_loose geo img) ys (omega (arith, total-loose-small geo img fr)) (omega arith),
       )
 
   -- 01: the counts are true

@@ -11,7 +11,7 @@ use Rattle.store.proofs.CutLaws.{cut-row, cut_act_lem, cut-none, cut-whole}
 use Rattle.volume.specs.declared.Geometry.{Geometry}
 use Rattle.volume.specs.declared.Count.TheVariants.{Nbfree}
 use Rattle.volume.specs.Volume.{byte_at, cg_at, count_at, total_at}
-use Rattle.volume.proofs.Laws.{byteAt-mono, byteAt-add}
+use Rattle.volume.proofs.Laws.{byte_at-mono, byte_at-add}
 use Rattle.bits.specs.declared.Found.{Found}
 use Rattle.bits.specs.declared.Found.TheVariants.{At, Nothing}
 use Rattle.bits.specs.Upto.{as_bit}
@@ -276,8 +276,8 @@ given-inside geo img fr a e = go (chosen geo img) refl e
         let i = chosen-is geo img g h q in
         let s = spots geo img fr g i.group in
         let p : block_address geo g h ≡ a = cc in
-        let m = byteAt-mono geo g (block_inside geo img fr g h i.group i.block) in
-        let d = byteAt-add geo g (geo.frag * h) geo.frag in
+        let m = byte_at-mono geo g (block_inside geo img fr g h i.group i.block) in
+        let d = byte_at-add geo g (geo.frag * h) geo.frag in
         let u : a * geo.fsize ≡ byte_at geo g (geo.frag * h) = ap (λ (x : ℕ). x * geo.fsize) (sym p) ∙ block-place geo g h in
         let f : geo.frag * geo.fsize ≡ geo.bsize = mul_comm geo.frag geo.fsize ∙ fr.sizes.fsize in
         (omega arith, s.small)

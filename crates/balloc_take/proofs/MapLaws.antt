@@ -15,7 +15,7 @@ use Rattle.volume.specs.declared.Totals.{Totals}
 use Rattle.volume.specs.Volume.{byte_at, cg_at}
 use Rattle.volume.proofs.Laws.{kept-group}
 use Rattle.bits.specs.Bits.{bit_at, put_bits_at}
-use Rattle.bits.proofs.BitsLaws.{kept-bit_at, kept-putBitsAt, put_bits_at-none, bitAt-inside, bitAt-outside}
+use Rattle.bits.proofs.BitsLaws.{kept-bit_at, kept-put_bits_at, put_bits_at-none, bit_at-inside, bit_at-outside}
 use Rattle.sound.specs.Sound.{group_at, free_at}
 use Rattle.frame.specs.Writes.{map_write, count_write, total_write}
 use Rattle.frame.proofs.Places.{spots}
@@ -32,10 +32,10 @@ use Rattle.balloc_take.proofs.TakeLaws.{maps-cut, block-split, frag_cut, stores-
 module _ {geo : Geometry} {g f n : ℕ} {img : List ℕ} (r : BackRun geo img g f n) (m : ℕ) (l : m ≤ n) where
   -- the first m bits are 1, the group's others are as they were
   pub back_inside : (x : ℕ) → f ≤ x → x < f + m → bit_at (put_bits_at 1 img (free_at geo g img) f m) (free_at geo g img) x ≡ 1
-  back_inside x a b = bitAt-inside 1 img (free_at geo g img) f m (omega arith) (omega (arith, r.in_byte)) (run-byte r) x a b
+  back_inside x a b = bit_at-inside 1 img (free_at geo g img) f m (omega arith) (omega (arith, r.in_byte)) (run-byte r) x a b
 
   pub back-outside : (x : ℕ) → (x < f) ⊎ (f + m ≤ x) → bit_at (put_bits_at 1 img (free_at geo g img) f m) (free_at geo g img) x ≡ bit_at img (free_at geo g img) x
-  back-outside x o = bitAt-outside 1 img (free_at geo g img) f m (omega arith) (omega (arith, r.in_byte)) (run-byte r) x o
+  back-outside x o = bit_at-outside 1 img (free_at geo g img) f m (omega arith) (omega (arith, r.in_byte)) (run-byte r) x o
 
   -- the byte stands in the group's record, past its fields
   place : cg_at geo g + ((group_at geo g img).freeoff + f / 8) + 1 ≤ byte_at geo g geo.iblkno
@@ -49,7 +49,7 @@ module _ {geo : Geometry} {g f n : ℕ} {img : List ℕ} (r : BackRun geo img g 
   back-group h lh =
       let s = spots geo img r.frame g r.group in
       let p = fields-apart geo img r.frame g ((group_at geo g img).freeoff + f / 8) 1 r.group place (omega arith, inr (omega arith)) in
-      kept-group (kept-putBitsAt 1 img (free_at geo g img) f m) geo.order (cg_at geo h)
+      kept-group (kept-put_bits_at 1 img (free_at geo g img) f m) geo.order (cg_at geo h)
       (⊎_elim (λ x. inl (omega arith)) (λ x. inr (omega arith)) (p.ndblk h lh)) (⊎_elim (λ x. inl (omega arith)) (λ x. inr (omega arith)) (p.offsets h lh))
 
   -- the bits of every other group are as they were
@@ -58,7 +58,7 @@ module _ {geo : Geometry} {g f n : ℕ} {img : List ℕ} (r : BackRun geo img g 
   back-other h lh ne x b =
       let t = spots geo img r.frame h lh in
       let p = record_apart geo img r.frame g ((group_at geo g img).freeoff + f / 8) 1 h ((group_at geo h img).freeoff + x / 8) 1 r.group lh place (omega arith) (λ e. absurd (ne e)) in
-      kept-bit_at (free_at geo h img) x (kept-putBitsAt 1 img (free_at geo g img) f m) (⊎_elim (λ y. inl (omega arith)) (λ y. inr (omega arith)) p)
+      kept-bit_at (free_at geo h img) x (kept-put_bits_at 1 img (free_at geo g img) f m) (⊎_elim (λ y. inl (omega arith)) (λ y. inr (omega arith)) p)
 
 -- ---- the counts' stores write counts alone
 

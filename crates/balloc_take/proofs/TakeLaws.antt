@@ -23,7 +23,7 @@ use Rattle.bits.proofs.BitsLaws.{put_bits_at-none}
 use Rattle.sound.specs.Sound.{free_at}
 use Rattle.frame.specs.Frame.{Frame}
 use Rattle.frame.specs.Writes.{map_write, count_write, total_write, up, down}
-use Rattle.frame.proofs.WriteLaws.{apply-map-over, applyIf-map, up-is, down-is, frame_if, count-frame, total-frame, bits-frame-at, map-write-frame}
+use Rattle.frame.proofs.WriteLaws.{apply-map-over, apply_if-map, up-is, down-is, frame_if, count-frame, total-frame, bits-frame-at, map-write-frame}
 use Rattle.balloc_take.specs.declared.Judged.{Judged}
 use Rattle.balloc_take.specs.declared.Judged.TheVariants.{Good, Bad}
 use Rattle.balloc_take.specs.declared.Took.{Took}
@@ -152,7 +152,7 @@ pub map_stored : (geo : Geometry) (g f n : ℕ) (img : List ℕ) {free : Bool} {
     → b ≡ put_bits (as_bit free) n (f % 8) (get_or img at 0) → b < 256
     → (o : Order) (go : Bool) (xs : List ℕ) {ys : List ℕ} → ys ≡ apply_if go (number o 1 at b ∷ []) xs → ys ≡ apply_if go (map_write 1 geo g f n img ∷ []) xs
 map_stored geo g f n img {at = at} {b = b} e t q l o go xs z =
-    z ∙ ap (λ (p : ℕ). apply_if go (number o 1 p b ∷ []) xs) e ∙ applyIf-map geo img go o 1 g f n b xs (map-value geo g f n img e t q) l
+    z ∙ ap (λ (p : ℕ). apply_if go (number o 1 p b ∷ []) xs) e ∙ apply_if-map geo img go o 1 g f n b xs (map-value geo g f n img e t q) l
 
 -- writes made together, stored one by one
 pub together : (go : Bool) (s t : Store) (xs : List ℕ) {ys zs : List ℕ} → ys ≡ apply_if go s xs → zs ≡ apply_if go t ys → zs ≡ apply_if go (s ++ t) xs

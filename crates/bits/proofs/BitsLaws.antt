@@ -241,35 +241,35 @@ pub put-one : (at v : ℕ) (xs : List ℕ) → put at (v ∷ []) xs ≡ set xs a
 put-one at v xs = put-more at (v ∷ []) xs 0 (omega arith) ∙ ap (λ (ys : List ℕ). set ys (at + 0) v) (put-none at xs) ∙ ap (λ (k : ℕ). set xs k v) (add-zero at)
 
 module _ (v : ℕ) (img : List ℕ) (at f n : ℕ) where
-  pub kept-putBitsAt : Kept (at + f / 8) 1 img (put_bits_at v img at f n)
+  pub kept-put_bits_at : Kept (at + f / 8) 1 img (put_bits_at v img at f n)
   unfolding put_bits_at
-  kept-putBitsAt = kept-put (at + f / 8) (put_bits v n (f % 8) (get_or img (at + f / 8) 0) ∷ []) img
+  kept-put_bits_at = kept-put (at + f / 8) (put_bits v n (f % 8) (get_or img (at + f / 8) 0) ∷ []) img
 
-  pub length-putBitsAt : length (put_bits_at v img at f n) ≡ length img
-  length-putBitsAt = kept-putBitsAt.long
+  pub length-put_bits_at : length (put_bits_at v img at f n) ≡ length img
+  length-put_bits_at = kept-put_bits_at.long
 
   -- as one write
-  pub putBitsAt-is : put_bits_at v img at f n ≡ put (at + f / 8) (put_bits v n (f % 8) (get_or img (at + f / 8) 0) ∷ []) img
+  pub put_bits_at-is : put_bits_at v img at f n ≡ put (at + f / 8) (put_bits v n (f % 8) (get_or img (at + f / 8) 0) ∷ []) img
   unfolding put_bits_at
-  putBitsAt-is = refl
+  put_bits_at-is = refl
 
   -- as the code stores it
-  pub putBitsAt-set : put_bits_at v img at f n ≡ set img (at + f / 8) (put_bits v n (f % 8) (get_or img (at + f / 8) 0))
+  pub put_bits_at-set : put_bits_at v img at f n ≡ set img (at + f / 8) (put_bits v n (f % 8) (get_or img (at + f / 8) 0))
   unfolding put_bits_at
-  putBitsAt-set = put-one (at + f / 8) _ img
+  put_bits_at-set = put-one (at + f / 8) _ img
 
 -- a run of no bits leaves the image
 pub put_bits_at-none : (v : ℕ) (img : List ℕ) (at f : ℕ) → put_bits_at v img at f 0 ≡ img
 put_bits_at-none v img at f =
-    putBitsAt-set v img at f 0 ∙ ap (set img (at + f / 8)) (put_no_bits v (f % 8) (get_or img (at + f / 8) 0)) ∙ set-get_or img (at + f / 8) 0
+    put_bits_at-set v img at f 0 ∙ ap (set img (at + f / 8)) (put_no_bits v (f % 8) (get_or img (at + f / 8) 0)) ∙ set-get_or img (at + f / 8) 0
 
 module _ (v : ℕ) (img : List ℕ) (at f n : ℕ) (two : v < 2) (in_byte : f % 8 + n ≤ 8) (in_image : at + f / 8 < length img) where
   pub byte-stored : get_or (put_bits_at v img at f n) (at + f / 8) 0 ≡ put_bits v n (f % 8) (get_or img (at + f / 8) 0)
-  byte-stored = rw (putBitsAt-set v img at f n) (get_or-set_same img (at + f / 8) _ 0 in_image)
+  byte-stored = rw (put_bits_at-set v img at f n) (get_or-set_same img (at + f / 8) _ 0 in_image)
 
   -- the bits of the run are v
-  pub bitAt-inside : (g : ℕ) → f ≤ g → g < f + n → bit_at (put_bits_at v img at f n) at g ≡ v
-  bitAt-inside g l u =
+  pub bit_at-inside : (g : ℕ) → f ≤ g → g < f + n → bit_at (put_bits_at v img at f n) at g ≡ v
+  bit_at-inside g l u =
       let e : f + (g - f) ≡ g = omega arith in
       ap (bit_at (put_bits_at v img at f n) at) (sym e)
       ∙ bit_at_near (put_bits_at v img at f n) at f (g - f) (omega arith)
@@ -277,15 +277,15 @@ module _ (v : ℕ) (img : List ℕ) (at f n : ℕ) (two : v < 2) (in_byte : f % 
       ∙ put-inside v n (f % 8) (get_or img (at + f / 8) 0) two (f % 8 + (g - f)) (omega arith) (omega arith)
 
   -- every other bit is as it was
-  pub bitAt-outside : (g : ℕ) → (g < f) ⊎ (f + n ≤ g) → bit_at (put_bits_at v img at f n) at g ≡ bit_at img at g
+  pub bit_at-outside : (g : ℕ) → (g < f) ⊎ (f + n ≤ g) → bit_at (put_bits_at v img at f n) at g ≡ bit_at img at g
   unfolding bit_at
-  bitAt-outside g h = go (ℕ_discrete (g / 8) (f / 8))
+  bit_at-outside g h = go (ℕ_discrete (g / 8) (f / 8))
     where
       go : Dec (g / 8 ≡ f / 8) → bit_at (put_bits_at v img at f n) at g ≡ bit_at img at g
       go (yes q) =
           rw (q, byte-stored)
           (put-outside v n (f % 8) (get_or img (at + f / 8) 0) two (g % 8) (⊎_elim (λ x. inl (omega arith)) (λ x. inr (omega arith)) h))
-      go (no q) = kept-bit_at at g (kept-putBitsAt v img at f n) (apart (dec_lt (g / 8) (f / 8)))
+      go (no q) = kept-bit_at at g (kept-put_bits_at v img at f n) (apart (dec_lt (g / 8) (f / 8)))
         where
           apart : Dec (g / 8 < f / 8) → (at + g / 8 < at + f / 8) ⊎ (at + f / 8 + 1 ≤ at + g / 8)
           apart (yes x) = inl (omega arith)

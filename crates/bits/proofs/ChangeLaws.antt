@@ -13,7 +13,7 @@ use Rattle.field.specs.Field.{Kept}
 use Rattle.bits.specs.Upto.{as_bit}
 use Rattle.bits.specs.Bits.{is_frag, bit_at, is_clear, bits_are, block_free, put_bits_at, first_free, first_clear, free_blocks, free_frags, loose_frags}
 use Rattle.bits.proofs.UptoLaws.{as_bit-true, as_bit-false, first-same, count-same, sum-same, sum_const, sum_change, count_change}
-use Rattle.bits.proofs.BitsLaws.{frag-some, block_in_byte, block-ends, bit_at-same, kept-bit_at, bits-same, bits_at, bits-hold, bits-fail, free-bits, bitAt-inside, bitAt-outside}
+use Rattle.bits.proofs.BitsLaws.{frag-some, block_in_byte, block-ends, bit_at-same, kept-bit_at, bits-same, bits_at, bits-hold, bits-fail, free-bits, bit_at-inside, bit_at-outside}
 use Rattle.bits.proofs.CountLaws.{loose-sum}
 
 -- ---- bits that are as they were
@@ -56,7 +56,7 @@ module _ (xs ys : List ℕ) (at n : ℕ) (same : (f : ℕ) → f < n → bit_at 
 
 module _ (v : ℕ) (img : List ℕ) (at f n : ℕ) (two : v < 2) (in_byte : f % 8 + n ≤ 8) (in_image : at + f / 8 < length img) where
   pub run-put : bits_are v (put_bits_at v img at f n) at f n ≡ true
-  run-put = bits-hold v (put_bits_at v img at f n) at f n (λ k l. bitAt-inside v img at f n two in_byte in_image (f + k) (omega arith) (omega arith))
+  run-put = bits-hold v (put_bits_at v img at f n) at f n (λ k l. bit_at-inside v img at f n two in_byte in_image (f + k) (omega arith) (omega arith))
 
   -- they were all u
   pub frags-put : (u m : ℕ) → bits_are u img at f n ≡ true → f + n ≤ m → free_frags (put_bits_at v img at f n) at m + u * n ≡ free_frags img at m + v * n
@@ -66,13 +66,13 @@ module _ (v : ℕ) (img : List ℕ) (at f n : ℕ) (two : v < 2) (in_byte : f % 
       let q : f + n + (m - (f + n)) ≡ m = omega arith in
       let was = sum_const (λ (k : ℕ). bit_at img at (f + k)) u n (λ k b. bits_at u img at f n k a b) in
       let is = sum_const (λ (k : ℕ). bit_at img' at (f + k)) v n (λ k b. bits_at v img' at f n k run-put b) in
-      rw (was, is, q) at (sum_change (bit_at img' at) (bit_at img at) f n (m - (f + n)) (bitAt-outside v img at f n two in_byte in_image))
+      rw (was, is, q) at (sum_change (bit_at img' at) (bit_at img at) f n (m - (f + n)) (bit_at-outside v img at f n two in_byte in_image))
 
   -- a block that the run does not meet
   pub block_apart : (frag h : ℕ) → (frag * h + frag ≤ f) ⊎ (f + n ≤ frag * h) → block_free frag (put_bits_at v img at f n) at h ≡ block_free frag img at h
   block_apart frag h o =
       free-bits frag (put_bits_at v img at f n) at h
-      ∙ bits-same 1 img (put_bits_at v img at f n) at (frag * h) frag (λ k l. bitAt-outside v img at f n two in_byte in_image (frag * h + k) (⊎_elim (λ x. inl (omega arith)) (λ x. inr (omega arith)) o))
+      ∙ bits-same 1 img (put_bits_at v img at f n) at (frag * h) frag (λ k l. bit_at-outside v img at f n two in_byte in_image (frag * h + k) (⊎_elim (λ x. inl (omega arith)) (λ x. inr (omega arith)) o))
       ∙ sym (free-bits frag img at h)
 
   -- the run lies in block h

@@ -16,7 +16,7 @@ use Rattle.headers.specs.Maps.{isset, setbit, clrbit, Frag, frags, isblock, isfr
 use Rattle.headers.proofs.MapLaws.{isset-read, setbit-same, setbit-other, clrbit-same, clrbit-other}
 use Rattle.headers.proofs.BlockLaws.{isblock-bits, isfreeblock-bits, setblock-in, setblock-out, clrblock-in, clrblock-out}
 use Rattle.bits.specs.Bits.{frag_free, bit_at, bits_are, block_free, block_full, put_bits_at}
-use Rattle.bits.proofs.BitsLaws.{frag-free, free-bit, bit_at-two, bits_at, bits-hold, free-bits, full-bits, bitAt-inside, bitAt-outside, length-putBitsAt}
+use Rattle.bits.proofs.BitsLaws.{frag-free, free-bit, bit_at-two, bits_at, bits-hold, free-bits, full-bits, bit_at-inside, bit_at-outside, length-put_bits_at}
 
 T-true : (b : Bool) → T b → b ≡ true
 T-true true t = refl
@@ -82,15 +82,15 @@ module _ (n at : ℕ) (img : List ℕ) (room : at + n ≤ length img) where
 module _ (n at : ℕ) (img : List ℕ) (room : at + n ≤ length img) (v f m : ℕ) (two : v < 2) (in_byte : f % 8 + m ≤ 8) (in_map : f / 8 < n) where
   stored-inside : (j : ℕ) → j / 8 < n → f ≤ j → j < f + m → isset (part n at (put_bits_at v img at f m)) j ≡ eqb v 1
   stored-inside j b l u =
-      isset-is n at (put_bits_at v img at f m) (omega (arith, length-putBitsAt v img at f m)) j b
+      isset-is n at (put_bits_at v img at f m) (omega (arith, length-put_bits_at v img at f m)) j b
       ∙ free-bit (put_bits_at v img at f m) at j
-      ∙ ap (λ (x : ℕ). eqb x 1) (bitAt-inside v img at f m two in_byte (omega arith) j l u)
+      ∙ ap (λ (x : ℕ). eqb x 1) (bit_at-inside v img at f m two in_byte (omega arith) j l u)
 
   stored-outside : (j : ℕ) → j / 8 < n → (j < f) ⊎ (f + m ≤ j) → isset (part n at (put_bits_at v img at f m)) j ≡ isset (part n at img) j
   stored-outside j b o =
-      isset-is n at (put_bits_at v img at f m) (omega (arith, length-putBitsAt v img at f m)) j b
+      isset-is n at (put_bits_at v img at f m) (omega (arith, length-put_bits_at v img at f m)) j b
       ∙ free-bit (put_bits_at v img at f m) at j
-      ∙ ap (λ (x : ℕ). eqb x 1) (bitAt-outside v img at f m two in_byte (omega arith) j o)
+      ∙ ap (λ (x : ℕ). eqb x 1) (bit_at-outside v img at f m two in_byte (omega arith) j o)
       ∙ sym (free-bit img at j) ∙ sym (isset-is n at img room j b)
 
   -- so a list whose run is v and whose other bits are as they were has the same bits

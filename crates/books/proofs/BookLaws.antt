@@ -139,10 +139,10 @@ module _ (geo : Geometry) (xs : List ℕ) (fr : Frame geo xs) where
   -- before the groups, or in a group's record with its maps, ahead of its inodes
   pub data Where (j : ℕ) : Type 0 where
     early : j < 66912 → Where j
-    inRecord : (g : ℕ) → g < geo.ncg → cg_at geo g ≤ j → j < byte_at geo g geo.iblkno → Where j
+    in_record : (g : ℕ) → g < geo.ncg → cg_at geo g ≤ j → j < byte_at geo g geo.iblkno → Where j
 
   pub book-where : {j : ℕ} → Book geo xs j → Where j
-  book-where (of_free g l r) = let s = spots geo xs fr g l in inRecord g l (omega arith) (omega arith)
-  book-where (of_used g l r) = let s = spots geo xs fr g l in inRecord g l (omega arith) (omega arith)
-  book-where (of_counts g l r) = let s = spots geo xs fr g l in inRecord g l (omega arith) (omega arith)
+  book-where (of_free g l r) = let s = spots geo xs fr g l in in_record g l (omega arith) (omega arith)
+  book-where (of_used g l r) = let s = spots geo xs fr g l in in_record g l (omega arith) (omega arith)
+  book-where (of_counts g l r) = let s = spots geo xs fr g l in in_record g l (omega arith) (omega arith)
   book-where (of_totals r) = early (omega arith)

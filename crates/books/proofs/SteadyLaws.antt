@@ -15,7 +15,7 @@ use Rattle.store.proofs.OnlyLaws.{kept-but-num, only-cut}
 use Rattle.store.proofs.CutLaws.{cut_act_lem}
 use Rattle.volume.specs.declared.Geometry.{Geometry}
 use Rattle.volume.specs.Volume.{sb_at, byte_at, cg_at}
-use Rattle.volume.proofs.Laws.{group-same, kept-group, byteAt-next, byteAt-mono}
+use Rattle.volume.proofs.Laws.{group-same, kept-group, byte_at-next, byte_at-mono}
 use Rattle.sound.specs.Clauses.{reserved_from}
 use Rattle.sound.specs.Sound.{group_at}
 use Rattle.sound.proofs.Laws.{reserved-within}
@@ -83,9 +83,9 @@ module _ (geo : Geometry) (xs : List ℕ) (fr : Frame geo xs) where
       let s = spots geo xs fr g lg in
       areas-steady a n ys (omega arith)
       (λ h lh. let t = spots geo xs fr h lh in
-      ⊎_elim (λ k. inr (omega (arith, byteAt-next geo k)))
+      ⊎_elim (λ k. inr (omega (arith, byte_at-next geo k)))
       (λ x. ⊎_elim (λ e. let z : byte_at geo g geo.iblkno ≡ byte_at geo h geo.iblkno = ap (λ (y : ℕ). byte_at geo y geo.iblkno) e in inl (omega arith))
-      (λ k. inl (omega (arith, byteAt-next geo k))) x)
+      (λ k. inl (omega (arith, byte_at-next geo k))) x)
       (order g h)) k
 
   -- into a run of data
@@ -94,7 +94,7 @@ module _ (geo : Geometry) (xs : List ℕ) (fr : Frame geo xs) where
       areas-steady (a * geo.fsize) (n * geo.fsize) ys (run_past geo xs fr a n r p)
       (λ h lh. let t = spots geo xs fr h lh in
       part_outside (a * geo.fsize) (n * geo.fsize) (byte_at geo h (reserved_from geo h)) (byte_at geo h geo.dblkno - byte_at geo h (reserved_from geo h)) (cg_at geo h) (byte_at geo h geo.iblkno - cg_at geo h)
-      (byteAt-mono geo h (omega (arith, reserved-within geo h, fr.laid.copy)))
+      (byte_at-mono geo h (omega (arith, reserved-within geo h, fr.laid.copy)))
       (omega arith)
       (run-apart geo xs fr a n r h lh)) k
 

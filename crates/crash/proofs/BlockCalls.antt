@@ -22,7 +22,7 @@ use Rattle.volume.specs.declared.Count.TheVariants.{Nbfree, Nffree}
 use Rattle.volume.specs.Volume.{geometry_of, cg_at, count_at, total_at, counts_of, totals_of}
 use Rattle.bits.specs.Bits.{bits_are, put_bits_at}
 use Rattle.bits.proofs.UptoLaws.{as_bit-true, as_bit-false}
-use Rattle.bits.proofs.BitsLaws.{frag-most, kept-putBitsAt}
+use Rattle.bits.proofs.BitsLaws.{frag-most, kept-put_bits_at}
 use Rattle.sound.specs.Clauses.{soundb}
 use Rattle.sound.specs.declared.Taken.TheVariants.{Sound}
 use Rattle.sound.specs.Test.{taken_of}
@@ -61,7 +61,7 @@ run-kept : {geo : Geometry} {img : List ℕ} {g f n : ℕ} → BackRun geo img g
 run-kept {geo} {img} {g} {f} r v m =
     let w = r.within in
     let o = r.some in
-    kept_wider (free_at geo g img) (((group_at geo g img).ndblk + 7) / 8) (omega arith) (omega arith) (kept-putBitsAt v img (free_at geo g img) f m)
+    kept_wider (free_at geo g img) (((group_at geo g img).ndblk + 7) / 8) (omega arith) (omega arith) (kept-put_bits_at v img (free_at geo g img) f m)
 
 -- one map byte
 one-map : {geo : Geometry} {img : List ℕ} {g f n u v was is : ℕ} → RunMade geo img g f n u v was is → (i : ℕ)

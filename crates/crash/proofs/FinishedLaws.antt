@@ -15,7 +15,7 @@ use Rattle.volume.specs.declared.Geometry.{Geometry}
 use Rattle.volume.specs.declared.Count.{Count}
 use Rattle.volume.specs.declared.Count.TheVariants.{Nbfree, Nifree, Nffree}
 use Rattle.volume.specs.Volume.{cg_at, count_place, count_at, total_at}
-use Rattle.volume.proofs.Laws.{count-place, total-place, kept-putCount, kept-putTotal, count-putCount, count-putCount-other, total-putTotal, total-putTotal-other, kept-count, kept-total}
+use Rattle.volume.proofs.Laws.{count-place, total-place, kept-put_count, kept-put_total, count-put_count, count-put_count-other, total-put_total, total-put_total-other, kept-count, kept-total}
 use Rattle.bits.proofs.UptoLaws.{true-not-false}
 use Rattle.frame.specs.Frame.{Frame}
 use Rattle.frame.specs.Writes.{count_write, total_write, up, down}
@@ -73,7 +73,7 @@ module _ {geo : Geometry} {img m z : List ℕ} {g : ℕ} {count total : Count �
   written_count =
       let o = geo.order in
       let e = apply-count geo z g c v in
-      let k = kept-putCount o c (cg_at geo g) v z in
+      let k = kept-put_count o c (cg_at geo g) v z in
       let s = spots geo m fr g l in
       let n = w.kept.long in
       let p = count-place c in
@@ -81,7 +81,7 @@ module _ {geo : Geometry} {img m z : List ℕ} {g : ℕ} {count total : Count �
         kept = kept-but_trans w.kept (kept-but-store (more (count-write-in geo g c v l rc) none) z);
         here = rw e
             (made-read (256 ^ 4) v count (λ (d : Count). count_at o d (cg_at geo g) z) (λ (d : Count). count_at o d (cg_at geo g) _) c
-            (λ b. count-putCount o c (cg_at geo g) v z b (omega arith)) (λ d ne. count-putCount-other o c (cg_at geo g) v z d ne) w.here);
+            (λ b. count-put_count o c (cg_at geo g) v z b (omega arith)) (λ d ne. count-put_count-other o c (cg_at geo g) v z d ne) w.here);
         elsewhere = λ h lh ne d. let t = spots geo m fr h lh in let q = count-place d in
             ap (count_at o d (cg_at geo h)) e
             ∙ kept-count k o d (cg_at geo h) (record_apart geo m fr g (count_place c) 4 h (count_place d) 4 l lh (omega arith) (omega arith) (λ x. absurd (ne (sym x))))
@@ -94,7 +94,7 @@ module _ {geo : Geometry} {img m z : List ℕ} {g : ℕ} {count total : Count �
   written-total =
       let o = geo.order in
       let e = apply-total geo z c v in
-      let k = kept-putTotal o c v z in
+      let k = kept-put_total o c v z in
       let n = w.kept.long in
       let p = total-place c in
       let b = fr.laid.low in
@@ -106,7 +106,7 @@ module _ {geo : Geometry} {img m z : List ℕ} {g : ℕ} {count total : Count �
         elsewhere = λ h lh ne d. past h lh d ∙ w.elsewhere h lh ne d;
         totals = rw e
             (made-read (256 ^ 8) v total (λ (d : Count). total_at o d z) (λ (d : Count). total_at o d _) c
-            (λ b. total-putTotal o c v z b (omega arith)) (λ d ne. total-putTotal-other o c v z d ne) w.totals);
+            (λ b. total-put_total o c v z b (omega arith)) (λ d ne. total-put_total-other o c v z d ne) w.totals);
       }
 
 -- before the counts are written

@@ -15,7 +15,7 @@ use Rattle.volume.proofs.Laws.{count-place, total-place, kept-count, kept-total,
 use Rattle.bits.specs.Upto.{sum, as_bit}
 use Rattle.bits.specs.Bits.{is_frag, bit_at, bits_are, block_free, put_bits_at, free_blocks, free_frags}
 use Rattle.bits.proofs.UptoLaws.{as_bit-false, sum-more, sum-split, sum-same}
-use Rattle.bits.proofs.BitsLaws.{frag_cases, bits-fail, free-bits, kept-bit_at, kept-putBitsAt, bitAt-outside}
+use Rattle.bits.proofs.BitsLaws.{frag_cases, bits-fail, free-bits, kept-bit_at, kept-put_bits_at, bit_at-outside}
 use Rattle.bits.proofs.ChangeLaws.{blocks-same, frags-put, blocks-put}
 use Rattle.sound.specs.Sound.{group_at, free_at}
 use Rattle.frame.specs.Frame.{Frame, Outside}
@@ -94,7 +94,7 @@ module _ {geo : Geometry} {img : List ℕ} {g f n u v was is : ℕ} (r : RunMade
 
   -- the one byte that changes, and what it is not
   byte-kept : Kept (free_at geo g img + f / 8) 1 img (with_bits v geo g f n img)
-  byte-kept = kept-putBitsAt v img (free_at geo g img) f n
+  byte-kept = kept-put_bits_at v img (free_at geo g img) f n
 
   byte-apart : (k i m : ℕ) → k < geo.ncg → cg_at geo k + i + m ≤ byte_at geo k geo.iblkno → (g ≡ k → i + m ≤ 168) → Outside (free_at geo g img + f / 8) 1 (cg_at geo k + i) m
   byte-apart k i m l w a =
@@ -149,7 +149,7 @@ module _ {geo : Geometry} {img : List ℕ} {g f n u v was is : ℕ} (r : RunMade
         sym r.before ∙ cut-not-free geo img b.frame g (f / geo.frag) b.group a l,
         sym r.after ∙ rw e at (cut-not-free geo (with_bits v geo g f n img) made-frame g (f / geo.frag) b.group (rw e a) (rw e l)),
         blocks-same img (with_bits v geo g f n img) (free_at geo g img) (geo.frag * nb)
-            (λ x y. bitAt-outside v img (free_at geo g img) f n r.two b.in_byte (run-byte b) x (inl (omega (arith, mul-le-mul_left geo.frag q, block-first)))) geo.frag nb (omega arith),
+            (λ x y. bit_at-outside v img (free_at geo g img) f n r.two b.in_byte (run-byte b) x (inl (omega (arith, mul-le-mul_left geo.frag q, block-first)))) geo.frag nb (omega arith),
       )
 
   own-blocks : own_blocks geo g img (with_bits v geo g f n img) + was ≡ own_blocks geo g img img + is

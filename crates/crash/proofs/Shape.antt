@@ -21,7 +21,7 @@ use Rattle.volume.specs.declared.Count.TheVariants.{Nbfree, Nifree, Nffree}
 use Rattle.volume.specs.Volume.{sb_at, byte_at, cg_at, count_place, count_at, total_place, total_at, put_count, put_total}
 use Rattle.volume.specs.Signed.{signed}
 use Rattle.volume.proofs.SignedLaws.{signed-pos}
-use Rattle.volume.proofs.Laws.{count-place, total-place, counts-apart, total-count, count-putCount, kept-putCount, kept-count, total-putTotal, kept-putTotal, kept-total, kept-group}
+use Rattle.volume.proofs.Laws.{count-place, total-place, counts-apart, total-count, count-put_count, kept-put_count, kept-count, total-put_total, kept-put_total, kept-total, kept-group}
 use Rattle.bits.specs.Bits.{bit_at}
 use Rattle.sound.specs.Sound.{group_at, free_at}
 use Rattle.frame.specs.Frame.{Frame, Spots, Outside}
@@ -69,7 +69,7 @@ module _ (geo : Geometry) (img : List ℕ) (fr : Frame geo img) (b : Bounded geo
       record {
         counts = λ h lh d. at h lh d (ℕ_discrete g h) (same-count c d);
         totals = λ d. let q = count-place c in let p = total-place d in let t = spots geo img fr g l in
-            rw (kept-total (kept-putCount geo.order c (cg_at geo g) v img) geo.order d (inl (omega arith))) (b.totals d);
+            rw (kept-total (kept-put_count geo.order c (cg_at geo g) v img) geo.order d (inl (omega arith))) (b.totals d);
       }
     where
       other : (h : ℕ) → h < geo.ncg → (d : Count) → (g ≡ h → c ≡ d → ⊥) → nat_abs (signed 4 (count_at geo.order d (cg_at geo h) (put_count geo.order c (cg_at geo g) v img))) ≤ 2 ^ 31 - 9
@@ -78,13 +78,13 @@ module _ (geo : Geometry) (img : List ℕ) (fr : Frame geo img) (b : Bounded geo
           let q = count-place d in
           let s = spots geo img fr g l in
           let t = spots geo img fr h lh in
-          rw (kept-count (kept-putCount geo.order c (cg_at geo g) v img) geo.order d (cg_at geo h)
+          rw (kept-count (kept-put_count geo.order c (cg_at geo g) v img) geo.order d (cg_at geo h)
           (record_apart geo img fr g (count_place c) 4 h (count_place d) 4 l lh (omega arith) (omega arith) (λ e. ⊎_elim (λ x. inr x) (λ x. inl x) (counts-apart c d (n e))))) (b.counts h lh d)
 
       at : (h : ℕ) → h < geo.ncg → (d : Count) → Dec (g ≡ h) → Dec (c ≡ d) → nat_abs (signed 4 (count_at geo.order d (cg_at geo h) (put_count geo.order c (cg_at geo g) v img))) ≤ 2 ^ 31 - 9
       at h lh d (yes e) (yes f) =
           let t = spots geo img fr g l in
-          rw (← e, ← f, count-putCount geo.order c (cg_at geo g) v img (omega arith) (omega arith)) (small-number 4 v (2 ^ 31 - 9) (omega arith) (omega arith))
+          rw (← e, ← f, count-put_count geo.order c (cg_at geo g) v img (omega arith) (omega arith)) (small-number 4 v (2 ^ 31 - 9) (omega arith) (omega arith))
       at h lh d (yes e) (no f) = other h lh d (λ _ q. f q)
       at h lh d (no e) f = other h lh d (λ q _. e q)
 
@@ -92,14 +92,14 @@ module _ (geo : Geometry) (img : List ℕ) (fr : Frame geo img) (b : Bounded geo
   total-bounded c v s =
       record {
         counts = λ h lh d. let q = total-place c in let p = count-place d in let t = spots geo img fr h lh in
-            rw (kept-count (kept-putTotal geo.order c v img) geo.order d (cg_at geo h) (inr (omega arith))) (b.counts h lh d);
+            rw (kept-count (kept-put_total geo.order c v img) geo.order d (cg_at geo h) (inr (omega arith))) (b.counts h lh d);
         totals = λ d. at d (same-count c d);
       }
     where
       at : (d : Count) → Dec (c ≡ d) → nat_abs (signed 8 (total_at geo.order d (put_total geo.order c v img))) ≤ 2 ^ 62
-      at d (yes f) = rw (← f, total-putTotal geo.order c v img (omega arith) fr.laid.low) (small-number 8 v (2 ^ 62) (omega arith) (omega arith))
+      at d (yes f) = rw (← f, total-put_total geo.order c v img (omega arith) fr.laid.low) (small-number 8 v (2 ^ 62) (omega arith) (omega arith))
       at d (no f) =
-          rw (kept-total (kept-putTotal geo.order c v img) geo.order d
+          rw (kept-total (kept-put_total geo.order c v img) geo.order d
           (⊎_elim (λ x. inr (omega (arith, total-count c, total-count d, count-place c, count-place d))) (λ x. inl (omega (arith, total-count c, total-count d, count-place c, count-place d))) (counts-apart c d f))) (b.totals d)
 
   small-bounded : (w : Write) → SmallWrite geo w → Bounded geo (apply (w ∷ []) img)

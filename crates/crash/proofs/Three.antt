@@ -8,7 +8,7 @@ use native.Mathlib.Omega.{arith}
 use Rattle.volume.specs.declared.Geometry.{Geometry}
 use Rattle.volume.specs.declared.Volume.{Volume}
 use Rattle.volume.specs.Volume.{geometry_of, byte_at, cg_at}
-use Rattle.volume.proofs.Laws.{byteAt-eq}
+use Rattle.volume.proofs.Laws.{byte_at-eq}
 use Rattle.sound.specs.Clauses.{soundb}
 use Rattle.sound.specs.Sound.{group_at, free_at}
 use Rattle.frame.specs.Frame.{Frame, Outside}
@@ -34,8 +34,8 @@ demand_three vol img e w t m cs k =
 pub apart-before : (img : List ℕ) → soundb img ≡ true → (geometry_of img).sblkno * (geometry_of img).fsize + 1376 ≤ (geometry_of img).cblkno * (geometry_of img).fsize → MagicApart (geometry_of img) img
 apart-before img e l g b =
     let geo = geometry_of img in
-    let s = byteAt-eq geo g geo.sblkno in
-    let c = byteAt-eq geo g geo.cblkno in
+    let s = byte_at-eq geo g geo.sblkno in
+    let c = byte_at-eq geo g geo.cblkno in
     inl (omega arith)
 
 pub demand_three_before : (vol : Volume) (img : List ℕ) → soundb img ≡ true → vol.writable ≡ true → TrueCounts (geometry_of img) img

@@ -8,7 +8,7 @@ use native.Mathlib.Omega.{arith}
 use lib.ListN.{length}
 use Rattle.field.specs.declared.Order.{Order}
 use Rattle.field.specs.Field.{num, part, put, put_num, zeros, Bytes, Kept}
-use Rattle.field.proofs.Laws.{length-put_num, length-zeros, num-bound, num-put_num, num-putNum-before, part-put, part-put-apart, kept_trans, kept_wider, kept-put, kept-put_num}
+use Rattle.field.proofs.Laws.{length-put_num, length-zeros, num-bound, num-put_num, num-put_num-before, part-put, part-put-apart, kept_trans, kept_wider, kept-put, kept-put_num}
 use Rattle.dirblock.specs.declared.Entry.{Entry}
 use Rattle.dirblock.specs.declared.Rec.TheVariants.{Used}
 use Rattle.dirblock.specs.Record.{smallest_read, kind_known, entry_at, name_at, rec_at}
@@ -58,16 +58,16 @@ module _ (o : Order) (pos : ℕ) (e : Entry) (block : List ℕ) where
       let l2 : length b2 ≡ length b1 = length-put_num o 2 (pos + 4) e.reclen b1 in
       let l3 : length b3 ≡ length b2 = length-put_num o 1 (pos + 6) e.kind b2 in
       let i : num o 4 pos (put_num o 1 (pos + 7) e.namelen b3) ≡ e.inr =
-      num-putNum-before o 1 (pos + 7) e.namelen b3 o 4 pos (omega arith)
-      ∙ num-putNum-before o 1 (pos + 6) e.kind b2 o 4 pos (omega arith)
-      ∙ num-putNum-before o 2 (pos + 4) e.reclen b1 o 4 pos (omega arith)
+      num-put_num-before o 1 (pos + 7) e.namelen b3 o 4 pos (omega arith)
+      ∙ num-put_num-before o 1 (pos + 6) e.kind b2 o 4 pos (omega arith)
+      ∙ num-put_num-before o 2 (pos + 4) e.reclen b1 o 4 pos (omega arith)
       ∙ num-put_num o 4 pos e.inr block w.inr (omega arith) in
       let l : num o 2 (pos + 4) (put_num o 1 (pos + 7) e.namelen b3) ≡ e.reclen =
-      num-putNum-before o 1 (pos + 7) e.namelen b3 o 2 (pos + 4) (omega arith)
-      ∙ num-putNum-before o 1 (pos + 6) e.kind b2 o 2 (pos + 4) (omega arith)
+      num-put_num-before o 1 (pos + 7) e.namelen b3 o 2 (pos + 4) (omega arith)
+      ∙ num-put_num-before o 1 (pos + 6) e.kind b2 o 2 (pos + 4) (omega arith)
       ∙ num-put_num o 2 (pos + 4) e.reclen b1 w.reclen (omega arith) in
       let t : num o 1 (pos + 6) (put_num o 1 (pos + 7) e.namelen b3) ≡ e.kind =
-      num-putNum-before o 1 (pos + 7) e.namelen b3 o 1 (pos + 6) (omega arith)
+      num-put_num-before o 1 (pos + 7) e.namelen b3 o 1 (pos + 6) (omega arith)
       ∙ num-put_num o 1 (pos + 6) e.kind b2 w.kind (omega arith) in
       let n : num o 1 (pos + 7) (put_num o 1 (pos + 7) e.namelen b3) ≡ e.namelen = num-put_num o 1 (pos + 7) e.namelen b3 w.namelen (omega arith) in
       rw (i, l, t, n)

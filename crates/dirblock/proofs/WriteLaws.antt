@@ -8,7 +8,7 @@ use lib.ListN.{length}
 use lib.Seq.{take_all}
 use Rattle.field.specs.declared.Order.{Order}
 use Rattle.field.specs.Field.{part, put, zeros}
-use Rattle.field.proofs.Laws.{length-put, length-put_num, put-part, part-putNum-after}
+use Rattle.field.proofs.Laws.{length-put, length-put_num, put-part, part-put_num-after}
 use Rattle.dirblock.specs.declared.Entry.{Entry}
 use Rattle.dirblock.specs.Record.{name_at}
 use Rattle.dirblock.specs.Write.{put_header, put_rec, dir_entry, newdir_block}
@@ -30,10 +30,10 @@ part-whole n xs h = take_all n xs (omega arith)
 pub part_header : (o : Order) (pos : ℕ) (e : Entry) (block : List ℕ) (m at : ℕ) → pos + 8 ≤ at → part m at (put_header o pos e block) ≡ part m at block
 unfolding put_header
 part_header o pos e block m at h =
-    part-putNum-after o 1 (pos + 7) e.namelen _ m at (omega arith)
-    ∙ part-putNum-after o 1 (pos + 6) e.kind _ m at (omega arith)
-    ∙ part-putNum-after o 2 (pos + 4) e.reclen _ m at (omega arith)
-    ∙ part-putNum-after o 4 pos e.inr block m at (omega arith)
+    part-put_num-after o 1 (pos + 7) e.namelen _ m at (omega arith)
+    ∙ part-put_num-after o 1 (pos + 6) e.kind _ m at (omega arith)
+    ∙ part-put_num-after o 2 (pos + 4) e.reclen _ m at (omega arith)
+    ∙ part-put_num-after o 4 pos e.inr block m at (omega arith)
 
 -- a name that stands in its place is written by writing the header alone
 pub name-stands : (o : Order) (pos : ℕ) (e : Entry) (block : List ℕ) → pos + 8 + e.namelen ≤ length block

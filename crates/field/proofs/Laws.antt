@@ -253,29 +253,29 @@ num-put_num o n at v xs b h =
 
 -- bytes, a byte and a field apart from what was put are as they were
 module _ (o : Order) (n at v : ℕ) (xs : List ℕ) where
-  pub part-putNum-before : (m a : ℕ) → a + m ≤ at → part m a (put_num o n at v xs) ≡ part m a xs
+  pub part-put_num-before : (m a : ℕ) → a + m ≤ at → part m a (put_num o n at v xs) ≡ part m a xs
   unfolding put_num
-  part-putNum-before m a h = part-put-apart m a at (turn o (digits n v)) xs (inl h)
+  part-put_num-before m a h = part-put-apart m a at (turn o (digits n v)) xs (inl h)
 
-  pub part-putNum-after : (m a : ℕ) → at + n ≤ a → part m a (put_num o n at v xs) ≡ part m a xs
+  pub part-put_num-after : (m a : ℕ) → at + n ≤ a → part m a (put_num o n at v xs) ≡ part m a xs
   unfolding put_num
-  part-putNum-after m a h = part-put-apart m a at (turn o (digits n v)) xs (inr (omega (arith, length-number o n v)))
+  part-put_num-after m a h = part-put-apart m a at (turn o (digits n v)) xs (inr (omega (arith, length-number o n v)))
 
-  pub getD-putNum-before : (k : ℕ) → k < at → get_or (put_num o n at v xs) k 0 ≡ get_or xs k 0
+  pub get_or-put_num-before : (k : ℕ) → k < at → get_or (put_num o n at v xs) k 0 ≡ get_or xs k 0
   unfolding put_num
-  getD-putNum-before k h = get_or-put at (turn o (digits n v)) xs k (inl h)
+  get_or-put_num-before k h = get_or-put at (turn o (digits n v)) xs k (inl h)
 
-  pub getD-putNum-after : (k : ℕ) → at + n ≤ k → get_or (put_num o n at v xs) k 0 ≡ get_or xs k 0
+  pub get_or-put_num-after : (k : ℕ) → at + n ≤ k → get_or (put_num o n at v xs) k 0 ≡ get_or xs k 0
   unfolding put_num
-  getD-putNum-after k h = get_or-put at (turn o (digits n v)) xs k (inr (omega (arith, length-number o n v)))
+  get_or-put_num-after k h = get_or-put at (turn o (digits n v)) xs k (inr (omega (arith, length-number o n v)))
 
-  pub num-putNum-before : (q : Order) (m a : ℕ) → a + m ≤ at → num q m a (put_num o n at v xs) ≡ num q m a xs
+  pub num-put_num-before : (q : Order) (m a : ℕ) → a + m ≤ at → num q m a (put_num o n at v xs) ≡ num q m a xs
   unfolding num
-  num-putNum-before q m a h = ap (λ (l : List ℕ). value (turn q l)) (part-putNum-before m a h)
+  num-put_num-before q m a h = ap (λ (l : List ℕ). value (turn q l)) (part-put_num-before m a h)
 
-  pub num-putNum-after : (q : Order) (m a : ℕ) → at + n ≤ a → num q m a (put_num o n at v xs) ≡ num q m a xs
+  pub num-put_num-after : (q : Order) (m a : ℕ) → at + n ≤ a → num q m a (put_num o n at v xs) ≡ num q m a xs
   unfolding num
-  num-putNum-after q m a h = ap (λ (l : List ℕ). value (turn q l)) (part-putNum-after m a h)
+  num-put_num-after q m a h = ap (λ (l : List ℕ). value (turn q l)) (part-put_num-after m a h)
 
 -- a field in two halves
 num_little_at : (m n at : ℕ) (xs : List ℕ) → at + m ≤ length xs → num Little (m + n) at xs ≡ num Little m at xs + 256 ^ m * num Little n (at + m) xs
@@ -407,7 +407,7 @@ kept-num o m b p h = ap (λ (l : List ℕ). value (turn o l)) (kept-part m b p h
 
 module _ (o q : Order) (at i m j n v : ℕ) (xs : List ℕ) where
   pub field-before : T (leb (i + m) j) → num q m (at + i) (put_num o n (at + j) v xs) ≡ num q m (at + i) xs
-  field-before t = num-putNum-before o n (at + j) v xs q m (at + i) (omega (arith, leb→le (i + m) j t))
+  field-before t = num-put_num-before o n (at + j) v xs q m (at + i) (omega (arith, leb→le (i + m) j t))
 
   pub field-after : T (leb (j + n) i) → num q m (at + i) (put_num o n (at + j) v xs) ≡ num q m (at + i) xs
-  field-after t = num-putNum-after o n (at + j) v xs q m (at + i) (omega (arith, leb→le (j + n) i t))
+  field-after t = num-put_num-after o n (at + j) v xs q m (at + i) (omega (arith, leb→le (j + n) i t))

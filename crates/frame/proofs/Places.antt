@@ -11,7 +11,7 @@ use lib.Dec.{leb, ltb}
 use borrow.Author.Tests.{leb-true, ltb-true, le-leb, lt-leb, le-ltb, lt-ltb}
 use Rattle.volume.specs.declared.Geometry.{Geometry}
 use Rattle.volume.specs.Volume.{geometry_of, byte_at, cg_at, inode_at}
-use Rattle.volume.proofs.Laws.{le_product, byteAt-mono, byteAt-next, byteAt-add, byteAt-address, byteAt-inside, inodeAt-eq}
+use Rattle.volume.proofs.Laws.{le_product, byte_at-mono, byte_at-next, byte_at-add, byte_at-address, byte_at-inside, inode_at-eq}
 use Rattle.bits.proofs.UptoLaws.{both}
 use Rattle.sound.specs.Clauses.{reserved_from, soundb}
 use Rattle.sound.specs.Sound.{group_at, free_at, used_at, Sound, Reserved}
@@ -52,24 +52,24 @@ module _ (geo : Geometry) (img : List ℕ) (fr : Frame geo img) where
       let h = fr.head g l in
       let p = placed geo g (length img) fr.laid (omega arith) in
       record {
-        first = byteAt-mono geo g (omega arith);
+        first = byte_at-mono geo g (omega arith);
         past = p.past;
         counts = omega arith;
         used_end = omega arith;
         free_end = omega arith;
         table = p.table;
         reserved = h.data_in;
-        data_end = byteAt-mono geo g h.data_in;
-        span = byteAt-mono geo g h.span;
-        inside = byteAt-inside geo g (group_at geo g img).ndblk (length img) h.inside;
+        data_end = byte_at-mono geo g h.data_in;
+        span = byte_at-mono geo g h.span;
+        inside = byte_at-inside geo g (group_at geo g img).ndblk (length img) h.inside;
         small = fr.laid.high;
       }
 
   -- two ranges in two groups are apart
   pub groups-apart : (g h a n b m : ℕ) → (g ≡ h → ⊥) → byte_at geo g 0 ≤ a → a + n ≤ byte_at geo g geo.fpg → byte_at geo h 0 ≤ b → b + m ≤ byte_at geo h geo.fpg → Outside a n b m
   groups-apart g h a n b m ne la ra lb rb =
-      ⊎_elim (λ l. inr (omega (arith, byteAt-next geo l)))
-      (λ r. ⊎_elim (λ e. absurd (ne e)) (λ l. inl (omega (arith, byteAt-next geo l))) r)
+      ⊎_elim (λ l. inr (omega (arith, byte_at-next geo l)))
+      (λ r. ⊎_elim (λ e. absurd (ne e)) (λ l. inl (omega (arith, byte_at-next geo l))) r)
       (order g h)
 
   -- a byte of the free map, and one of the inode map
@@ -81,10 +81,10 @@ module _ (geo : Geometry) (img : List ℕ) (fr : Frame geo img) where
 
   -- an inode's record lies in its group's table
   pub inode-first : (i : ℕ) → byte_at geo (i / geo.ipg) geo.iblkno ≤ inode_at geo i
-  inode-first i = omega (arith, inodeAt-eq geo i)
+  inode-first i = omega (arith, inode_at-eq geo i)
 
   pub inode-last : (i : ℕ) → i / geo.ipg < geo.ncg → inode_at geo i + 256 ≤ byte_at geo (i / geo.ipg) geo.dblkno
-  inode-last i l = let s = spots (i / geo.ipg) l in let e = fr.laid.inodes in omega (arith, inodeAt-eq geo i, mod-lt i {m = geo.ipg} (omega arith))
+  inode-last i l = let s = spots (i / geo.ipg) l in let e = fr.laid.inodes in omega (arith, inode_at-eq geo i, mod-lt i {m = geo.ipg} (omega arith))
 
   pub inode-group : (i : ℕ) → i < geo.ncg * geo.ipg → i / geo.ipg < geo.ncg
   inode-group i h = (div-lt_iff_lt-mul {k = geo.ipg} (omega (arith, fr.laid.inodes))).1 h
@@ -110,22 +110,22 @@ module _ (geo : Geometry) (img : List ℕ) (fr : Frame geo img) where
 
   module _ (a n : ℕ) (r : RunOk geo img a n) where
     pub run_end : a * geo.fsize + n * geo.fsize ≤ byte_at geo (a / geo.fpg) (group_at geo (a / geo.fpg) img).ndblk
-    run_end = omega (arith, byteAt-address geo a, byteAt-add geo (a / geo.fpg) (a % geo.fpg) n, byteAt-mono geo (a / geo.fpg) r.within)
+    run_end = omega (arith, byte_at-address geo a, byte_at-add geo (a / geo.fpg) (a % geo.fpg) n, byte_at-mono geo (a / geo.fpg) r.within)
 
     pub run_inside : a * geo.fsize + n * geo.fsize ≤ length img
     run_inside = let s = spots (a / geo.fpg) r.group in omega (arith, run_end)
 
     pub run-first : byte_at geo (a / geo.fpg) 0 ≤ a * geo.fsize
-    run-first = let z : 0 ≤ a % geo.fpg = omega arith in omega (arith, byteAt-address geo a, byteAt-mono geo (a / geo.fpg) z)
+    run-first = let z : 0 ≤ a % geo.fpg = omega arith in omega (arith, byte_at-address geo a, byte_at-mono geo (a / geo.fpg) z)
 
     -- outside the reserved fragments of its own group
     run-own : Outside (a * geo.fsize) (n * geo.fsize) (byte_at geo (a / geo.fpg) (reserved_from geo (a / geo.fpg))) (byte_at geo (a / geo.fpg) geo.dblkno - byte_at geo (a / geo.fpg) (reserved_from geo (a / geo.fpg)))
     run-own =
         let g = a / geo.fpg in
         let q : reserved_from geo g ≤ geo.dblkno = omega (arith, reserved-within geo g, fr.laid.copy, fr.laid.record_first, fr.laid.later) in
-        let d = byteAt-mono geo g q in
-        ⊎_elim (λ l. inr (omega (arith, byteAt-address geo a, byteAt-add geo g (a % geo.fpg) n, byteAt-mono geo g l)))
-        (λ l. inl (omega (arith, byteAt-address geo a, byteAt-mono geo g l)))
+        let d = byte_at-mono geo g q in
+        ⊎_elim (λ l. inr (omega (arith, byte_at-address geo a, byte_at-add geo g (a % geo.fpg) n, byte_at-mono geo g l)))
+        (λ l. inl (omega (arith, byte_at-address geo a, byte_at-mono geo g l)))
         r.apart
 
     -- past the superblock
@@ -134,10 +134,10 @@ module _ (geo : Geometry) (img : List ℕ) (fr : Frame geo img) where
         let g = a / geo.fpg in
         let s0 = spots 0 fr.laid.groups in
         let s = spots g r.group in
-        let ea = byteAt-address geo a in
-        ⊎_elim (λ l. omega (arith, byteAt-next geo l, run-first))
+        let ea = byte_at-address geo a in
+        ⊎_elim (λ l. omega (arith, byte_at-next geo l, run-first))
         (λ x. ⊎_elim (λ e. let z : reserved_from geo g ≡ 0 = ap (reserved_from geo) (sym e) ∙ reserved-first geo in
-        ⊎_elim (λ q. absurd (let w : ⊥ = omega arith in w)) (λ q. omega (arith, byteAt-mono geo g q)) r.apart) (λ l. absurd (let w : ⊥ = omega arith in w)) x)
+        ⊎_elim (λ q. absurd (let w : ⊥ = omega arith in w)) (λ q. omega (arith, byte_at-mono geo g q)) r.apart) (λ l. absurd (let w : ⊥ = omega arith in w)) x)
         (order 0 g)
 
     -- outside every group's reserved fragments, and so outside its record, maps and inodes
@@ -147,12 +147,12 @@ module _ (geo : Geometry) (img : List ℕ) (fr : Frame geo img) where
         let s = spots g r.group in
         let t = spots h l in
         let q : reserved_from geo h ≤ geo.dblkno = omega (arith, reserved-within geo h, fr.laid.copy, fr.laid.record_first, fr.laid.later) in
-        let d = byteAt-mono geo h q in
+        let d = byte_at-mono geo h q in
         let w : 0 ≤ reserved_from geo h = omega arith in
-        let z = byteAt-mono geo h w in
-        ⊎_elim (λ k. inr (omega (arith, byteAt-next geo k, run_end)))
+        let z = byte_at-mono geo h w in
+        ⊎_elim (λ k. inr (omega (arith, byte_at-next geo k, run_end)))
         (λ x. ⊎_elim (λ e. subst (λ (h : ℕ). Outside (a * geo.fsize) (n * geo.fsize) (byte_at geo h (reserved_from geo h)) (byte_at geo h geo.dblkno - byte_at geo h (reserved_from geo h))) e run-own)
-        (λ k. inl (omega (arith, byteAt-next geo k, run-first))) x)
+        (λ k. inl (omega (arith, byte_at-next geo k, run-first))) x)
         (order g h)
 
     -- no fragment of the run is one that is never free

@@ -14,7 +14,7 @@ use Rattle.volume.specs.declared.Geometry.{Geometry}
 use Rattle.volume.specs.declared.Count.{Count}
 use Rattle.volume.specs.Volume.{sb_at, geometry_of, magic_at, byte_at, cg_at, group_magic_at, count_at, total_at, count_place, total_place}
 use Rattle.volume.specs.Signed.{signed}
-use Rattle.volume.proofs.Laws.{byteAt-mono, byteAt-next, byteAt-add, byteAt-inside, kept-magic, kept-group-magic, kept-count, kept-total, count-place, total-place}
+use Rattle.volume.proofs.Laws.{byte_at-mono, byte_at-next, byte_at-add, byte_at-inside, kept-magic, kept-group-magic, kept-count, kept-total, count-place, total-place}
 use Rattle.sound.specs.Clauses.{fs_magic, cg_magic, reserved_from, soundb}
 use Rattle.sound.specs.Sound.{group_at, SoundWith, Sound}
 use Rattle.sound.proofs.Words.{sound-is, is-sound, power_is}
@@ -57,7 +57,7 @@ sound_with geo img fr m b =
         inodes = s.inodes;
       };
       places = record {
-        inside = λ g h. byteAt-inside geo g (group_at geo g img).ndblk (length img) (fr.head g h).inside;
+        inside = λ g h. byte_at-inside geo g (group_at geo g img).ndblk (length img) (fr.head g h).inside;
         past = l.past;
         copy = l.copy;
         group = l.record_first;
@@ -128,7 +128,7 @@ bounded-kept geo a n xs ys k p b =
 module _ (geo : Geometry) (xs : List ℕ) (fr : Frame geo xs) where
   -- where a copy's magic stands: in its own group, before the data
   copy-first : (g : ℕ) → byte_at geo g 0 ≤ byte_at geo g geo.sblkno + 1372
-  copy-first g = let z : 0 ≤ geo.sblkno = omega arith in omega (arith, byteAt-mono geo g z)
+  copy-first g = let z : 0 ≤ geo.sblkno = omega arith in omega (arith, byte_at-mono geo g z)
 
   copy-last : (g : ℕ) → g < geo.ncg → byte_at geo g geo.sblkno + 1376 ≤ byte_at geo g geo.dblkno
   copy-last g l = let h = fr.head g l in (placed geo g (length xs) fr.laid (omega arith)).copy_end
@@ -176,11 +176,11 @@ module _ (geo : Geometry) (xs : List ℕ) (fr : Frame geo xs) where
       record {
         super = inl (omega arith);
         copies = λ h lh. let t = spots geo xs fr h lh in
-            ⊎_elim (λ k. inr (omega (arith, byteAt-next geo k, copy-first h)))
-            (λ x. ⊎_elim (λ e. subst (λ (y : ℕ). Outside a n (byte_at geo y geo.sblkno + 1372) 4) e own) (λ k. inl (omega (arith, byteAt-next geo k, copy-last h lh))) x) (order g h);
+            ⊎_elim (λ k. inr (omega (arith, byte_at-next geo k, copy-first h)))
+            (λ x. ⊎_elim (λ e. subst (λ (y : ℕ). Outside a n (byte_at geo y geo.sblkno + 1372) 4) e own) (λ k. inl (omega (arith, byte_at-next geo k, copy-last h lh))) x) (order g h);
         groups = λ h lh. let t = spots geo xs fr h lh in
-            ⊎_elim (λ k. inr (omega (arith, byteAt-next geo k)))
-            (λ x. ⊎_elim (λ e. let z : cg_at geo g ≡ cg_at geo h = ap (cg_at geo) e in inl (omega arith)) (λ k. inl (omega (arith, byteAt-next geo k))) x) (order g h);
+            ⊎_elim (λ k. inr (omega (arith, byte_at-next geo k)))
+            (λ x. ⊎_elim (λ e. let z : cg_at geo g ≡ cg_at geo h = ap (cg_at geo) e in inl (omega arith)) (λ k. inl (omega (arith, byte_at-next geo k))) x) (order g h);
       }
 
   pub area-counts : (g a n : ℕ) → g < geo.ncg → cg_at geo g + 168 ≤ a → a + n ≤ byte_at geo g geo.fpg → CountsApart geo a n
@@ -188,8 +188,8 @@ module _ (geo : Geometry) (xs : List ℕ) (fr : Frame geo xs) where
       let s = spots geo xs fr g l in
       record {
         counts = λ h lh. let t = spots geo xs fr h lh in
-            ⊎_elim (λ k. inr (omega (arith, byteAt-next geo k)))
-            (λ x. ⊎_elim (λ e. let z : cg_at geo g ≡ cg_at geo h = ap (cg_at geo) e in inl (omega arith)) (λ k. inl (omega (arith, byteAt-next geo k))) x) (order g h);
+            ⊎_elim (λ k. inr (omega (arith, byte_at-next geo k)))
+            (λ x. ⊎_elim (λ e. let z : cg_at geo g ≡ cg_at geo h = ap (cg_at geo) e in inl (omega arith)) (λ k. inl (omega (arith, byte_at-next geo k))) x) (order g h);
         totals = inl (omega arith);
       }
 
@@ -204,16 +204,16 @@ module _ (geo : Geometry) (xs : List ℕ) (fr : Frame geo xs) where
   run_sound a n ys p r k m b =
       let at : (h i q : ℕ) → h < geo.ncg → byte_at geo h geo.sblkno ≤ i → i + q ≤ byte_at geo h geo.dblkno → Outside (a * geo.fsize) (n * geo.fsize) i q =
       λ h i q lh lo hi. part_outside (a * geo.fsize) (n * geo.fsize) (byte_at geo h (reserved_from geo h)) (byte_at geo h geo.dblkno - byte_at geo h (reserved_from geo h)) i q
-      (omega (arith, byteAt-mono geo h (reserved-within geo h))) (omega (arith, byteAt-mono geo h (reserved-within geo h))) (run-apart geo xs fr a n r h lh) in
+      (omega (arith, byte_at-mono geo h (reserved-within geo h))) (omega (arith, byte_at-mono geo h (reserved-within geo h))) (run-apart geo xs fr a n r h lh) in
       let past = run_past geo xs fr a n r p in
       sound_again geo ys (run-frame geo xs fr a n ys p r k)
       (marked-kept geo (a * geo.fsize) (n * geo.fsize) xs ys k (record {
         super = inl (omega arith);
         copies = λ h lh. at h (byte_at geo h geo.sblkno + 1372) 4 lh (omega arith) (omega (arith, copy-last h lh));
-        groups = λ h lh. let t = spots geo xs fr h lh in at h (cg_at geo h + 4) 4 lh (omega (arith, byteAt-mono geo h fr.laid.copy)) (omega arith);
+        groups = λ h lh. let t = spots geo xs fr h lh in at h (cg_at geo h + 4) 4 lh (omega (arith, byte_at-mono geo h fr.laid.copy)) (omega arith);
       }) m)
       (bounded-kept geo (a * geo.fsize) (n * geo.fsize) xs ys k (record {
-        counts = λ h lh. let t = spots geo xs fr h lh in at h (cg_at geo h + 28) 12 lh (omega (arith, byteAt-mono geo h fr.laid.copy)) (omega arith);
+        counts = λ h lh. let t = spots geo xs fr h lh in at h (cg_at geo h + 28) 12 lh (omega (arith, byte_at-mono geo h fr.laid.copy)) (omega arith);
         totals = inl (omega arith);
       }) b)
 

@@ -9,7 +9,7 @@ use lib.ListN.{length}
 use Rattle.field.specs.Field.{Kept}
 use Rattle.volume.specs.declared.Geometry.{Geometry}
 use Rattle.volume.specs.Volume.{sb_at, geometry_of, byte_at, cg_at}
-use Rattle.volume.proofs.Laws.{byteAt-mono, byteAt-next, kept-geometry, kept-group}
+use Rattle.volume.proofs.Laws.{byte_at-mono, byte_at-next, kept-geometry, kept-group}
 use Rattle.bits.specs.Bits.{bit_at}
 use Rattle.bits.proofs.BitsLaws.{kept-bit_at}
 use Rattle.sound.specs.Clauses.{reserved_from}
@@ -97,9 +97,9 @@ module _ (geo : Geometry) (xs : List ℕ) (fr : Frame geo xs) where
   record_apart g j n h i m lg lh wg wh q =
       let s = spots geo xs fr g lg in
       let t = spots geo xs fr h lh in
-      ⊎_elim (λ k. inr (omega (arith, byteAt-next geo k)))
+      ⊎_elim (λ k. inr (omega (arith, byte_at-next geo k)))
       (λ x. ⊎_elim (λ e. let z : cg_at geo g ≡ cg_at geo h = ap (cg_at geo) e in ⊎_elim (λ y. inl (omega arith)) (λ y. inr (omega arith)) (q e))
-      (λ k. inl (omega (arith, byteAt-next geo k))) x)
+      (λ k. inl (omega (arith, byte_at-next geo k))) x)
       (order g h)
 
   pub fields-apart : (g j n : ℕ) → g < geo.ncg → cg_at geo g + j + n ≤ byte_at geo g geo.iblkno → (24 ≤ j) × ((j + n ≤ 92) ⊎ (100 ≤ j)) → FieldsApart geo (cg_at geo g + j) n
@@ -141,9 +141,9 @@ module _ (geo : Geometry) (xs : List ℕ) (fr : Frame geo xs) where
       let s = spots geo xs fr g lg in
       areas-frame geo a n xs ys fr k (omega arith)
       (λ h lh. let t = spots geo xs fr h lh in
-      ⊎_elim (λ k. inr (omega (arith, byteAt-next geo k)))
+      ⊎_elim (λ k. inr (omega (arith, byte_at-next geo k)))
       (λ x. ⊎_elim (λ e. let z : byte_at geo g geo.iblkno ≡ byte_at geo h geo.iblkno = ap (λ (y : ℕ). byte_at geo y geo.iblkno) e in inl (omega arith))
-      (λ k. inl (omega (arith, byteAt-next geo k))) x)
+      (λ k. inl (omega (arith, byte_at-next geo k))) x)
       (order g h))
 
   -- a store into a run of data
@@ -152,7 +152,7 @@ module _ (geo : Geometry) (xs : List ℕ) (fr : Frame geo xs) where
       areas-frame geo (a * geo.fsize) (n * geo.fsize) xs ys fr k (run_past geo xs fr a n r p)
       (λ h lh. let t = spots geo xs fr h lh in
       part_outside (a * geo.fsize) (n * geo.fsize) (byte_at geo h (reserved_from geo h)) (byte_at geo h geo.dblkno - byte_at geo h (reserved_from geo h)) (cg_at geo h) (byte_at geo h geo.iblkno - cg_at geo h)
-      (byteAt-mono geo h (omega (arith, reserved-within geo h, fr.laid.copy)))
+      (byte_at-mono geo h (omega (arith, reserved-within geo h, fr.laid.copy)))
       (omega arith)
       (run-apart geo xs fr a n r h lh))
 

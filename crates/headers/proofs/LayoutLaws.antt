@@ -79,13 +79,13 @@ row-placed r t = agreed (placed r.of r.name) r.said t
 
 -- a member is read, and written, as the number of its width at its place
 module _ (o : Order) (t : CType) (p : Designator) (base : ℕ) (q : Placed) (e : placed t p ≡ some q) where
-  pub fieldAt-placed : (img : List ℕ) → field_at o t p base img ≡ num o q.width (base + q.at) img
+  pub field_at-placed : (img : List ℕ) → field_at o t p base img ≡ num o q.width (base + q.at) img
   unfolding field_at
-  fieldAt-placed img = ap (λ (m : Option Placed). num_at o m base img) e
+  field_at-placed img = ap (λ (m : Option Placed). num_at o m base img) e
 
-  pub putField-placed : (v : ℕ) (img : List ℕ) → put_field o t p base v img ≡ put_num o q.width (base + q.at) v img
+  pub put_field-placed : (v : ℕ) (img : List ℕ) → put_field o t p base v img ≡ put_num o q.width (base + q.at) v img
   unfolding put_field
-  putField-placed v img = ap (λ (m : Option Placed). put_at o m base v img) e
+  put_field-placed v img = ap (λ (m : Option Placed). put_at o m base v img) e
 
 -- how a codec is tied to the header, by one `unfolding field_at`: a member, a member of a member, an element
 pub sblkno-read : (o : Order) (base : ℕ) (img : List ℕ) → field_at o fs (member "fs_sblkno") base img ≡ num o 4 (base + 8) img

@@ -14,7 +14,7 @@ use Rattle.volume.specs.declared.Count.TheVariants.{Nifree}
 use Rattle.volume.specs.Volume.{sb_at, cg_at, count_at, total_at, count_place, total_place, inode_at}
 use Rattle.volume.proofs.Laws.{count-place, total-place}
 use Rattle.bits.specs.Bits.{bit_at}
-use Rattle.bits.proofs.BitsLaws.{bitAt-inside, kept-bit_at, kept-putBitsAt}
+use Rattle.bits.proofs.BitsLaws.{bit_at-inside, kept-bit_at, kept-put_bits_at}
 use Rattle.sound.specs.Sound.{used_at}
 use Rattle.frame.specs.Frame.{Frame}
 use Rattle.frame.proofs.Places.{spots, inode-is, used-byte}
@@ -109,7 +109,7 @@ module _ (geo : Geometry) (new : Inode) (img : List ℕ) (fr : Frame geo img) (g
   after-all = apply (total_write geo Nifree (counted false 8 (total_at geo.order Nifree after-count)) ∷ []) after-count
 
   kept-mark : Kept (used_at geo g img + k / 8) 1 img (marked geo new g k img)
-  kept-mark = rw (apply-used 1 geo g k img) (kept-putBitsAt 1 img (used_at geo g img) k 1)
+  kept-mark = rw (apply-used 1 geo g k img) (kept-put_bits_at 1 img (used_at geo g img) k 1)
 
   kept_record : Kept at 256 (marked geo new g k img) after-record
   kept_record = kept-inode-store geo.order at _ (marked geo new g k img)
@@ -138,7 +138,7 @@ module _ (geo : Geometry) (new : Inode) (img : List ℕ) (fr : Frame geo img) (g
       kept-bit_at (used_at geo g img) k kept-total (inr (omega (arith, o.0, o.1)))
       ∙ kept-bit_at (used_at geo g img) k kept-counts (inr o.1)
       ∙ kept-bit_at (used_at geo g img) k kept_record (inl (omega (arith, o.2)))
-      ∙ rw (apply-used 1 geo g k img) (bitAt-inside 1 img (used_at geo g img) k 1 (omega arith) (omega arith) (omega (arith, o.2, o.3)) k (omega arith) (omega arith))
+      ∙ rw (apply-used 1 geo g k img) (bit_at-inside 1 img (used_at geo g img) k 1 (omega arith) (omega arith) (omega (arith, o.2, o.3)) k (omega arith) (omega arith))
 
   generation-there : generation_at geo.order at (marked geo new g k img) ≡ generation_at geo.order at img
   generation-there =

@@ -16,7 +16,7 @@ use Rattle.volume.specs.declared.Count.TheVariants.{Nifree}
 use Rattle.volume.specs.Volume.{cg_at, count_at, total_at, inode_at}
 use Rattle.volume.proofs.Laws.{count-place, total-place}
 use Rattle.bits.specs.Bits.{bit_at, put_bits_at}
-use Rattle.bits.proofs.BitsLaws.{putBitsAt-is, kept-putBitsAt, kept-bit_at, bitAt-inside, bitAt-outside}
+use Rattle.bits.proofs.BitsLaws.{put_bits_at-is, kept-put_bits_at, kept-bit_at, bit_at-inside, bit_at-outside}
 use Rattle.sound.specs.Sound.{group_at, used_at}
 use Rattle.frame.specs.Frame.{Frame}
 use Rattle.frame.specs.Writes.{count_write, total_write}
@@ -33,7 +33,7 @@ use Rattle.ialloc_give.specs.Marks.{used_write, mark_used, counted, count_inode}
 module _ (v : ℕ) (geo : Geometry) (g k : ℕ) (img : List ℕ) where
   pub apply-used : apply (used_write v geo g k img ∷ []) img ≡ put_bits_at v img (used_at geo g img) k 1
   unfolding used_write
-  apply-used = apply-one (used_write v geo g k img) img ∙ sym (putBitsAt-is v img (used_at geo g img) k 1)
+  apply-used = apply-one (used_write v geo g k img) img ∙ sym (put_bits_at-is v img (used_at geo g img) k 1)
 
   pub mark-left : {u : ℕ} {x : List ℕ} → u ≡ v → x ≡ apply (used_write u geo g k img ∷ []) img → ◌≡◌ {A = Left (Unit {0})} (x, got (tt {0})) (leaves (mark_used v geo g k) img)
   unfolding mark_used leaves
@@ -97,13 +97,13 @@ module _ (geo : Geometry) (img : List ℕ) (fr : Frame geo img) where
     used-book = λ j lo hi. of_used g lg (omega (arith, lo), omega (arith, hi, used-inside))
 
     pub kept-used : Kept (used_at geo g img) (geo.ipg / 8) img (put_bits_at v img (used_at geo g img) k 1)
-    kept-used = kept_wider (used_at geo g img) (geo.ipg / 8) (omega arith) (omega (arith, used-inside)) (kept-putBitsAt v img (used_at geo g img) k 1)
+    kept-used = kept_wider (used_at geo g img) (geo.ipg / 8) (omega arith) (omega (arith, used-inside)) (kept-put_bits_at v img (used_at geo g img) k 1)
 
     module _ (two : v < 2) (stays : g ≡ 0 → k ≡ 0 → v ≡ 1) where
       zero_in : g ≡ 0 → Dec (k ≡ 0) → bit_at (put_bits_at v img (used_at geo g img) k 1) (used_at geo g img) 0 ≡ 1
-      zero_in e (yes z) = bitAt-inside v img (used_at geo g img) k 1 two (omega arith) used_from 0 (omega arith) (omega arith) ∙ stays e z
+      zero_in e (yes z) = bit_at-inside v img (used_at geo g img) k 1 two (omega arith) used_from 0 (omega arith) (omega arith) ∙ stays e z
       zero_in e (no z) =
-          bitAt-outside v img (used_at geo g img) k 1 two (omega arith) used_from 0 (inl (omega (arith, z)))
+          bit_at-outside v img (used_at geo g img) k 1 two (omega arith) used_from 0 (inl (omega (arith, z)))
           ∙ subst (λ (x : ℕ). bit_at img (used_at geo x img) 0 ≡ 1) (sym e) fr.zero
 
       zero-stays : Dec (g ≡ 0) → bit_at (put_bits_at v img (used_at geo g img) k 1) (used_at geo 0 img) 0 ≡ 1

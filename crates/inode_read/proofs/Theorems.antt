@@ -259,11 +259,11 @@ same-place : {p q : Place} → ◌≡◌ {A = Out Place} (got p) (got q) → p �
 same-place e = cc
 
 -- two reads agree on each byte of the file that both give
-pub reads_agree : (img : List ℕ) (i off at : ℕ) (buf left bufAt left_at : List ℕ) (m n : ℕ) → inode_read img i off buf ≡ (left, got m) → inode_read img i at bufAt ≡ (left_at, got n)
+pub reads_agree : (img : List ℕ) (i off at : ℕ) (buf left buf_at left_at : List ℕ) (m n : ℕ) → inode_read img i off buf ≡ (left, got m) → inode_read img i at buf_at ≡ (left_at, got n)
     → (j k : ℕ) → j < m → k < n → off + j ≡ at + k → get_or left j 0 ≡ get_or left_at k 0
-reads_agree img i off at buf left bufAt left_at m n f g j k l u e =
+reads_agree img i off at buf left buf_at left_at m n f g j k l u e =
     let v = read_well img i off buf left m f in
-    let w = read_well img i at bufAt left_at n g in
+    let w = read_well img i at buf_at left_at n g in
     v.bytes j l
     ∙ ap (λ (p : Place). byte_of p img (off + j)) (same-place (sym v.found ∙ w.found))
     ∙ ap (byte_of w.place img) e
@@ -274,10 +274,10 @@ module _ (img : List ℕ) (i off : ℕ) (buf front back : List ℕ) (rooms : len
   pub record InParts (n : ℕ) : Type 0 where
     pub ahead : ℕ
     pub behind : ℕ
-    pub leftAhead : List ℕ
-    pub leftBehind : List ℕ
-    pub front_read : inode_read img i off front ≡ (leftAhead, got ahead)
-    pub back_read : inode_read img i (off + length front) back ≡ (leftBehind, got behind)
+    pub left_ahead : List ℕ
+    pub left_behind : List ℕ
+    pub front_read : inode_read img i off front ≡ (left_ahead, got ahead)
+    pub back_read : inode_read img i (off + length front) back ≡ (left_behind, got behind)
     pub count : ahead + behind ≡ n
 
   -- the second part's bytes, whether counted from the room of the first or from its answer
@@ -300,8 +300,8 @@ module _ (img : List ℕ) (i off : ℕ) (buf front back : List ℕ) (rooms : len
       record {
         ahead = m;
         behind = k;
-        leftAhead = put 0 (bytes_of p img off m) front;
-        leftBehind = put 0 (bytes_of p img (off + length front) k) back;
+        left_ahead = put 0 (bytes_of p img off m) front;
+        left_behind = put 0 (bytes_of p img (off + length front) k) back;
         front_read = fine_good img i off front p g.found f.0;
         back_read = fine_good img i (off + length front) back p g.found (from-full p m k refl refl f.1);
         count = sym (g.count ∙ sum);
@@ -310,8 +310,8 @@ module _ (img : List ℕ) (i off : ℕ) (buf front back : List ℕ) (rooms : len
   -- and if the parts are read, so is the whole
   pub parts_whole : (n : ℕ) → InParts n → (left : List ℕ) × (inode_read img i off buf ≡ (left, got n))
   parts_whole n a =
-      let f = good_is img i off front a.leftAhead a.ahead a.front_read in
-      let g = good_is img i (off + length front) back a.leftBehind a.behind a.back_read in
+      let f = good_is img i off front a.left_ahead a.ahead a.front_read in
+      let g = good_is img i (off + length front) back a.left_behind a.behind a.back_read in
       let p = f.place in
       let s = p.spot.shape.size in
       let same : g.place ≡ p = same-place (sym g.found ∙ f.found) in

@@ -188,8 +188,8 @@ module _ (geo : Geometry) (img : List ℕ) (i : ℕ) where
 
 module _ (geo : Geometry) (img : List ℕ) (s : Spot) (name : List ℕ) where
   -- what the stages say from the inodes on, where lookup found i
-  abbrev inodeOut : ℕ → Bool → Bool → Sought Hit → Sought Hit → Sought Hit → Out (Unit {0})
-  inodeOut i f k link up own =
+  abbrev inode_out : ℕ → Bool → Bool → Sought Hit → Sought Hit → Sought Hit → Out (Unit {0})
+  inode_out i f k link up own =
       ask (f && own_ok geo img i (in_dir_only (f && k) up) (in_dir_only (f && k) own)) Invalid (ask k NotDirectory
       (late_out geo img s.shape.size (spot_of geo img i) i link (in_dir_only (f && k) up) (in_dir_only (f && k) own)))
 
@@ -198,7 +198,7 @@ module _ (geo : Geometry) (img : List ℕ) (s : Spot) (name : List ℕ) where
   none-own i = refl
 
   inode-is : (i : ℕ) (f k : Bool) (link up own : Sought Hit)
-      → inodeOut i f k link up own
+      → inode_out i f k link up own
       ≡ ask f Invalid (ask k NotDirectory (ask (own_ok geo img i up own) Invalid (walks_out geo img s.shape.size (spot_of geo img i) i link up own)))
   inode-is i true true link up own = ap (ask (own_ok geo img i up own) Invalid) (late_is geo img s.shape.size (spot_of geo img i) i link up own)
   inode-is i true false link up own = rw (none-own i)
@@ -210,7 +210,7 @@ module _ (geo : Geometry) (img : List ℕ) (s : Spot) (name : List ℕ) where
   ask-through false k e g = refl
 
   found-is : (i : ℕ)
-      → inodeOut i (found_ok geo img i) (is_dir (spot_of geo img i).shape) (find_dir geo s.at s.shape.size img name)
+      → inode_out i (found_ok geo img i) (is_dir (spot_of geo img i).shape) (find_dir geo s.at s.shape.size img name)
       (find_dir geo (spot_of geo img i).at (spot_of geo img i).shape.size img dotdot) (find_dir geo (spot_of geo img i).at (spot_of geo img i).shape.size img dot)
       ≡ found_out geo img s i name
   unfolding found_out dirs_out

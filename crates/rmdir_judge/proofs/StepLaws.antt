@@ -99,47 +99,47 @@ third_is : (a b d t : Bool) → a ≡ true → b ≡ true → t ≡ d → t ≡ 
 third_is a b d t h k e = rw (h, k) e
 
 module _ (geo : Geometry) (img : List ℕ) where
-  abbrev pub itsOk : Hit → Bool
-  itsOk h = found_ok geo img h.inr
+  abbrev pub its_ok : Hit → Bool
+  its_ok h = found_ok geo img h.inr
 
-  pub hit-number : (x : Seen) {h : Hit} → x ≡ Seen.At h → hit_where (seen_out x) itsOk ≡ true → h.inr < geo.ncg * geo.ipg
-  hit-number x {h} e t = found_number geo img h.inr (hit-at itsOk x e ∙ t)
+  pub hit-number : (x : Seen) {h : Hit} → x ≡ Seen.At h → hit_where (seen_out x) its_ok ≡ true → h.inr < geo.ncg * geo.ipg
+  hit-number x {h} e t = found_number geo img h.inr (hit-at its_ok x e ∙ t)
 
   module _ (i : ℕ) (up own : Seen) where
-    abbrev pub metBy : Hit → Hit → Bool
-    metBy q c = remain_all geo img i q.inr c.inr
+    abbrev pub met_by : Hit → Hit → Bool
+    met_by q c = remain_all geo img i q.inr c.inr
 
-    pub own-no-up : hit_where (seen_out up) itsOk ≡ false → false ≡ own_ok geo img i (seen_out up) (seen_out own)
+    pub own-no-up : hit_where (seen_out up) its_ok ≡ false → false ≡ own_ok geo img i (seen_out up) (seen_out own)
     unfolding own_ok
     own-no-up h = first_no _ _ h
 
-    module _ (u : hit_where (seen_out up) itsOk ≡ true) where
-      pub own-no-own : hit_where (seen_out own) itsOk ≡ false → false ≡ own_ok geo img i (seen_out up) (seen_out own)
+    module _ (u : hit_where (seen_out up) its_ok ≡ true) where
+      pub own-no-own : hit_where (seen_out own) its_ok ≡ false → false ≡ own_ok geo img i (seen_out up) (seen_out own)
       unfolding own_ok
       own-no-own h = second_no _ _ _ u h
 
-      module _ (o : hit_where (seen_out own) itsOk ≡ true) where
-        own-third : (t : Bool) → t ≡ hit_where (seen_out up) (λ q. hit_where (seen_out own) (metBy q)) → t ≡ own_ok geo img i (seen_out up) (seen_out own)
+      module _ (o : hit_where (seen_out own) its_ok ≡ true) where
+        own-third : (t : Bool) → t ≡ hit_where (seen_out up) (λ q. hit_where (seen_out own) (met_by q)) → t ≡ own_ok geo img i (seen_out up) (seen_out own)
         unfolding own_ok
         own-third t e = third_is _ _ _ t u o e
 
         pub own-met : {q c : Hit} → up ≡ Seen.At q → own ≡ Seen.At c → (t : Bool) → t ≡ remain_all geo img i q.inr c.inr → t ≡ own_ok geo img i (seen_out up) (seen_out own)
-        own-met {q} {c} eq ec t e = own-third t (e ∙ hit-at (metBy q) own ec ∙ hit-at (λ q. hit_where (seen_out own) (metBy q)) up eq)
+        own-met {q} {c} eq ec t e = own-third t (e ∙ hit-at (met_by q) own ec ∙ hit-at (λ q. hit_where (seen_out own) (met_by q)) up eq)
 
         pub own-no-dot : {q : Hit} → up ≡ Seen.At q → own ≡ Seen.Absent → true ≡ own_ok geo img i (seen_out up) (seen_out own)
-        own-no-dot {q} eq ec = own-third true (hit-absent (metBy q) own ec ∙ hit-at (λ q. hit_where (seen_out own) (metBy q)) up eq)
+        own-no-dot {q} eq ec = own-third true (hit-absent (met_by q) own ec ∙ hit-at (λ q. hit_where (seen_out own) (met_by q)) up eq)
 
         pub own-bad-dot : {q : Hit} → up ≡ Seen.At q → own ≡ Seen.Bad → true ≡ own_ok geo img i (seen_out up) (seen_out own)
-        own-bad-dot {q} eq ec = own-third true (hit-bad (metBy q) own ec ∙ hit-at (λ q. hit_where (seen_out own) (metBy q)) up eq)
+        own-bad-dot {q} eq ec = own-third true (hit-bad (met_by q) own ec ∙ hit-at (λ q. hit_where (seen_out own) (met_by q)) up eq)
 
         pub own-no-dots : up ≡ Seen.Absent → true ≡ own_ok geo img i (seen_out up) (seen_out own)
-        own-no-dots eq = own-third true (hit-absent (λ q. hit_where (seen_out own) (metBy q)) up eq)
+        own-no-dots eq = own-third true (hit-absent (λ q. hit_where (seen_out own) (met_by q)) up eq)
 
         pub own-bad-dots : up ≡ Seen.Bad → true ≡ own_ok geo img i (seen_out up) (seen_out own)
-        own-bad-dots eq = own-third true (hit-bad (λ q. hit_where (seen_out own) (metBy q)) up eq)
+        own-bad-dots eq = own-third true (hit-bad (λ q. hit_where (seen_out own) (met_by q)) up eq)
 
     -- where the test passes, both are of the volume
-    pub own-numbers : own_ok geo img i (seen_out up) (seen_out own) ≡ true → (hit_where (seen_out up) itsOk ≡ true) × (hit_where (seen_out own) itsOk ≡ true)
+    pub own-numbers : own_ok geo img i (seen_out up) (seen_out own) ≡ true → (hit_where (seen_out up) its_ok ≡ true) × (hit_where (seen_out own) its_ok ≡ true)
     unfolding own_ok
     own-numbers h = let q = Upto.both _ _ h in (q.0, (Upto.both _ _ q.1).0)
 

@@ -12,7 +12,7 @@ use borrow.Author.Tests.{leb-true, ltb-true, eqb-true, le-leb}
 use Rattle.volume.specs.declared.Geometry.{Geometry}
 use Rattle.volume.specs.declared.Group.{Group}
 use Rattle.volume.specs.Volume.{geometry_of, magic_at, byte_at, cg_at, group_magic_at, group_of}
-use Rattle.volume.proofs.Laws.{le_product, byteAt-eq, byteAt-inside}
+use Rattle.volume.proofs.Laws.{le_product, byte_at-eq, byte_at-inside}
 use Rattle.bits.specs.Upto.{all}
 use Rattle.bits.specs.Bits.{is_frag, frag_free}
 use Rattle.bits.proofs.UptoLaws.{both, true-not-false, not-true, all-at, all_fail, all-none}
@@ -117,10 +117,10 @@ module _ (geo : Geometry) where
 
   pub placed : (g n : ℕ) → Laid geo n → g * geo.fpg + geo.dblkno ≤ n / geo.fsize → Placed geo g n
   placed g n l h =
-      let ec = byteAt-eq geo g geo.cblkno in
-      let es = byteAt-eq geo g geo.sblkno in
-      let ei = byteAt-eq geo g geo.iblkno in
-      let ed = byteAt-eq geo g geo.dblkno in
+      let ec = byte_at-eq geo g geo.cblkno in
+      let es = byte_at-eq geo g geo.sblkno in
+      let ei = byte_at-eq geo g geo.iblkno in
+      let ed = byte_at-eq geo g geo.dblkno in
       let ea = area-eq (omega arith) in
       let sc = mul-le-mul_right geo.fsize l.copy in
       let some = le_product 1 512 (geo.iblkno - geo.cblkno) geo.fsize (omega arith) l.unit in
@@ -131,7 +131,7 @@ module _ (geo : Geometry) where
         area_some = omega arith;
         table = omega arith;
         copy_end = omega arith;
-        inside = byteAt-inside geo g geo.dblkno n h;
+        inside = byte_at-inside geo g geo.dblkno n h;
       }
 
 pub headed : (geo : Geometry) (frags g : ℕ) (r : Group) → header_ok geo frags g r ≡ true → Headed geo frags g r

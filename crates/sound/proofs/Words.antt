@@ -20,7 +20,7 @@ use Rattle.volume.specs.declared.Count.TheVariants.{Nbfree, Nifree, Nffree}
 use Rattle.volume.specs.Volume.{sb_at, geometry_of, magic_at, byte_at, cg_at, group_magic_at, group_of, count_at, total_at}
 use Rattle.volume.specs.Signed.{signed}
 use Rattle.volume.proofs.SignedLaws.{signed-pos, signed_neg}
-use Rattle.volume.proofs.Laws.{byteAt-inside, geometry_order}
+use Rattle.volume.proofs.Laws.{byte_at-inside, geometry_order}
 use Rattle.bits.specs.Bits.{is_frag, bit_at, bits_are}
 use Rattle.bits.proofs.UptoLaws.{both, all-holds}
 use Rattle.bits.proofs.BitsLaws.{bits_at, bits-hold}
@@ -188,7 +188,7 @@ sound-is img h =
         inodes = s.inodes;
       };
       places = record {
-        inside = λ g b. byteAt-inside geo g (group_at geo g img).ndblk (length img) (head g b).inside;
+        inside = λ g b. byte_at-inside geo g (group_at geo g img).ndblk (length img) (head g b).inside;
         past = l.past;
         copy = l.copy;
         group = l.record_first;

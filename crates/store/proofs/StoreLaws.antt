@@ -91,8 +91,8 @@ module _ (o : Order) (n at v : ℕ) where
   pub apply-number : (img : List ℕ) → apply (number o n at v ∷ []) img ≡ put_num o n at v img
   apply-number img = apply-one (number o n at v) img ∙ put-number img
 
-  pub applyIf-number : {go : Bool} → go ≡ true → (img : List ℕ) → apply_if go (number o n at v ∷ []) img ≡ put_num o n at v img
-  applyIf-number e img = apply_if-yes e (number o n at v ∷ []) img ∙ apply-number img
+  pub apply_if-number : {go : Bool} → go ≡ true → (img : List ℕ) → apply_if go (number o n at v ∷ []) img ≡ put_num o n at v img
+  apply_if-number e img = apply_if-yes e (number o n at v ∷ []) img ∙ apply-number img
 
   -- what was stored is read back
   pub num-number : (img : List ℕ) → v < 256 ^ n → at + n ≤ length img → num o n at (apply (number o n at v ∷ []) img) ≡ v

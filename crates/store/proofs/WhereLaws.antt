@@ -112,18 +112,18 @@ module _ (n at : ℕ) (xs ys : List ℕ) (l : length ys ≡ length xs) (e : (j :
 
 -- a part and a number field that no write meets are as they were
 module _ (n at : ℕ) {ss : List Store} (o : (j : ℕ) → Range at n j → OutsideAll j ss) (img : List ℕ) where
-  pub applyAll-part : part n at (apply_all ss img) ≡ part n at img
-  applyAll-part = part-agree n at img (apply_all ss img) (length-apply_all ss img) (λ j r. apply_all_outside (o j r) img)
+  pub apply_all-part : part n at (apply_all ss img) ≡ part n at img
+  apply_all-part = part-agree n at img (apply_all ss img) (length-apply_all ss img) (λ j r. apply_all_outside (o j r) img)
 
-  pub applyAll-num : (q : Order) → num q n at (apply_all ss img) ≡ num q n at img
-  applyAll-num q = num-agree n at img (apply_all ss img) (length-apply_all ss img) (λ j r. apply_all_outside (o j r) img) q
+  pub apply_all-num : (q : Order) → num q n at (apply_all ss img) ≡ num q n at img
+  apply_all-num q = num-agree n at img (apply_all ss img) (length-apply_all ss img) (λ j r. apply_all_outside (o j r) img) q
 
 module _ (n at : ℕ) {s : Store} (o : (j : ℕ) → Range at n j → Outside j s) (img : List ℕ) where
   pub apply-part : part n at (apply s img) ≡ part n at img
-  apply-part = rw apply_all-one at (applyAll-part n at (λ j r. more (o j r) none) img)
+  apply-part = rw apply_all-one at (apply_all-part n at (λ j r. more (o j r) none) img)
 
   pub apply-num : (q : Order) → num q n at (apply s img) ≡ num q n at img
-  apply-num q = rw apply_all-one at (applyAll-num n at (λ j r. more (o j r) none) img q)
+  apply-num q = rw apply_all-one at (apply_all-num n at (λ j r. more (o j r) none) img q)
 
 -- ---- two images that agree outside some stores are equal once both have them
 

@@ -11,7 +11,7 @@ use Rattle.store.proofs.CutLaws.{cut_act_lem}
 use Rattle.store.proofs.OnlyLaws.{kept-but-refl, kept-but_trans, kept-but-more, kept-but-num, kept-but-store, only-cut}
 use Rattle.volume.specs.declared.Geometry.{Geometry}
 use Rattle.volume.specs.Volume.{cg_at, byte_at}
-use Rattle.volume.proofs.Laws.{byteAt-next, byteAt-mono}
+use Rattle.volume.proofs.Laws.{byte_at-next, byte_at-mono}
 use Rattle.sound.specs.Clauses.{reserved_from}
 use Rattle.sound.proofs.Laws.{reserved-within}
 use Rattle.frame.specs.Frame.{Frame, InodeIs, RunOk}
@@ -21,7 +21,7 @@ use Rattle.inode.specs.Shape.{address_at}
 use Rattle.mapping.specs.Mapping.{per_list, entry_at, list_ok}
 use Rattle.balloc_take.specs.Take.{take_back}
 use Rattle.books.specs.Books.{Book, of_free, of_used, of_counts, of_totals, Steady}
-use Rattle.books.proofs.BookLaws.{Where, early, inRecord, book-where, take-only}
+use Rattle.books.proofs.BookLaws.{Where, early, in_record, book-where, take-only}
 use Rattle.books.proofs.SteadyLaws.{steady-refl, steady-trans, steady-run}
 use Rattle.books.proofs.KeepLaws.{keeps-take}
 use Rattle.inode_shrink.proofs.ShrinkLaws.{list_bytes}
@@ -69,13 +69,13 @@ module _ (geo : Geometry) (xs : List ℕ) (fr : Frame geo xs) where
     where
       by : Where geo xs fr j → ⊥
       by (early e) = let s = spots geo xs fr (i / geo.ipg) p.group in let q = p.first in omega (arith, e, r.0)
-      by (inRecord h l lo hi) =
+      by (in_record h l lo hi) =
           let s = spots geo xs fr (i / geo.ipg) p.group in
           let t = spots geo xs fr h l in
           let q = p.first in
           let z = p.last in
-          ⊎_elim (λ k. omega (arith, r.0, r.1, byteAt-next geo k))
-          (λ x. ⊎_elim (λ e. let w : byte_at geo (i / geo.ipg) geo.iblkno ≡ byte_at geo h geo.iblkno = ap (λ (y : ℕ). byte_at geo y geo.iblkno) e in omega (arith, r.0)) (λ k. omega (arith, r.0, r.1, byteAt-next geo k)) x)
+          ⊎_elim (λ k. omega (arith, r.0, r.1, byte_at-next geo k))
+          (λ x. ⊎_elim (λ e. let w : byte_at geo (i / geo.ipg) geo.iblkno ≡ byte_at geo h geo.iblkno = ap (λ (y : ℕ). byte_at geo y geo.iblkno) e in omega (arith, r.0)) (λ k. omega (arith, r.0, r.1, byte_at-next geo k)) x)
           (order (i / geo.ipg) h)
 
   pub list-books : (a : ℕ) → list_ok geo xs a ≡ true → {j : ℕ} → Book geo xs j → Range (a * geo.fsize) geo.bsize j → ⊥
@@ -86,12 +86,12 @@ module _ (geo : Geometry) (xs : List ℕ) (fr : Frame geo xs) where
 
       by : Where geo xs fr j → ⊥
       by (early e) = omega (arith, e, r.0, run_past geo xs fr a geo.frag run (frag-some geo.frag fr.sizes.frag))
-      by (inRecord h l lo hi) =
+      by (in_record h l lo hi) =
           let t = spots geo xs fr h l in
           let n = block-bytes geo xs fr in
           ⊎_elim (λ k. omega (arith, r.0, r.1, lo, hi)) (λ k. omega (arith, r.0, r.1, lo, hi))
           (part_outside (a * geo.fsize) (geo.frag * geo.fsize) (byte_at geo h (reserved_from geo h)) (byte_at geo h geo.dblkno - byte_at geo h (reserved_from geo h)) (cg_at geo h) (byte_at geo h geo.iblkno - cg_at geo h)
-          (byteAt-mono geo h (omega (arith, reserved-within geo h, fr.laid.copy)))
+          (byte_at-mono geo h (omega (arith, reserved-within geo h, fr.laid.copy)))
           (omega arith)
           (run-apart geo xs fr a geo.frag run h l))
 

@@ -10,13 +10,13 @@ use Rattle.store.specs.Act.{Always}
 use Rattle.store.proofs.OnlyLaws.{kept-but-store, kept-store}
 use Rattle.volume.specs.declared.Geometry.{Geometry}
 use Rattle.volume.specs.Volume.{byte_at, cg_at}
-use Rattle.volume.proofs.Laws.{byteAt-mono, byteAt-next}
+use Rattle.volume.proofs.Laws.{byte_at-mono, byte_at-next}
 use Rattle.sound.specs.Clauses.{reserved_from}
 use Rattle.sound.proofs.Laws.{reserved-within}
 use Rattle.frame.specs.Frame.{Frame, RunOk}
 use Rattle.frame.proofs.Places.{order, spots, part_outside, run_past, run-apart}
 use Rattle.books.specs.Books.{Book, Steady}
-use Rattle.books.proofs.BookLaws.{Where, early, inRecord, book-where}
+use Rattle.books.proofs.BookLaws.{Where, early, in_record, book-where}
 use Rattle.books.proofs.SteadyLaws.{steady-refl, steady-trans, run-steady}
 use Rattle.books.proofs.KeepLaws.{keeps-give}
 use Rattle.balloc_give.specs.Give.{give_block}
@@ -31,11 +31,11 @@ module _ (geo : Geometry) (xs : List ℕ) (fr : Frame geo xs) where
     where
       by : Where geo xs fr j → ⊥
       by (early e) = omega (arith, e, r.0, run_past geo xs fr a n run some)
-      by (inRecord h l lo hi) =
+      by (in_record h l lo hi) =
           let t = spots geo xs fr h l in
           ⊎_elim (λ k. omega (arith, r.0, r.1, lo, hi)) (λ k. omega (arith, r.0, r.1, lo, hi))
           (part_outside (a * geo.fsize) (n * geo.fsize) (byte_at geo h (reserved_from geo h)) (byte_at geo h geo.dblkno - byte_at geo h (reserved_from geo h)) (cg_at geo h) (byte_at geo h geo.iblkno - cg_at geo h)
-          (byteAt-mono geo h (omega (arith, reserved-within geo h, fr.laid.copy)))
+          (byte_at-mono geo h (omega (arith, reserved-within geo h, fr.laid.copy)))
           (omega arith)
           (run-apart geo xs fr a n run h l))
 
@@ -44,13 +44,13 @@ module _ (geo : Geometry) (xs : List ℕ) (fr : Frame geo xs) where
     where
       by : Where geo xs fr j → ⊥
       by (early e) = let s = spots geo xs fr p.group p.one in let q = p.first in omega (arith, e, r.0)
-      by (inRecord h l lo hi) =
+      by (in_record h l lo hi) =
           let s = spots geo xs fr p.group p.one in
           let t = spots geo xs fr h l in
           let q = p.first in
           let z = p.last in
-          ⊎_elim (λ k. omega (arith, r.0, r.1, byteAt-next geo k))
-          (λ x. ⊎_elim (λ e. let w : byte_at geo p.group geo.iblkno ≡ byte_at geo h geo.iblkno = ap (λ (y : ℕ). byte_at geo y geo.iblkno) e in omega (arith, r.0)) (λ k. omega (arith, r.0, r.1, byteAt-next geo k)) x)
+          ⊎_elim (λ k. omega (arith, r.0, r.1, byte_at-next geo k))
+          (λ x. ⊎_elim (λ e. let w : byte_at geo p.group geo.iblkno ≡ byte_at geo h geo.iblkno = ap (λ (y : ℕ). byte_at geo y geo.iblkno) e in omega (arith, r.0)) (λ k. omega (arith, r.0, r.1, byte_at-next geo k)) x)
           (order p.group h)
 
   pub run-table : (a n : ℕ) → RunOk geo xs a n → (at : ℕ) → InTable geo at → {j : ℕ} → Range (a * geo.fsize) (n * geo.fsize) j → Range at 256 j → ⊥
@@ -61,8 +61,8 @@ module _ (geo : Geometry) (xs : List ℕ) (fr : Frame geo xs) where
       let hi = p.last in
       ⊎_elim (λ k. omega (arith, r.0, r.1, q.0, q.1)) (λ k. omega (arith, r.0, r.1, q.0, q.1))
       (part_outside (a * geo.fsize) (n * geo.fsize) (byte_at geo g (reserved_from geo g)) (byte_at geo g geo.dblkno - byte_at geo g (reserved_from geo g)) at 256
-      (let m = byteAt-mono geo g {f = reserved_from geo g} {x = geo.iblkno} (omega (arith, reserved-within geo g, fr.laid.copy, fr.laid.record_first)) in omega (arith, m))
-      (let m = byteAt-mono geo g {f = reserved_from geo g} {x = geo.dblkno} (omega (arith, reserved-within geo g, fr.laid.copy, fr.laid.record_first, fr.laid.later)) in omega (arith, m))
+      (let m = byte_at-mono geo g {f = reserved_from geo g} {x = geo.iblkno} (omega (arith, reserved-within geo g, fr.laid.copy, fr.laid.record_first)) in omega (arith, m))
+      (let m = byte_at-mono geo g {f = reserved_from geo g} {x = geo.dblkno} (omega (arith, reserved-within geo g, fr.laid.copy, fr.laid.record_first, fr.laid.later)) in omega (arith, m))
       (run-apart geo xs fr a n run g p.one))
 
 -- ---- what the work rests on all along

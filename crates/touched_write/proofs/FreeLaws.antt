@@ -17,9 +17,9 @@ use Rattle.store.proofs.AlwaysLaws.{always-all}
 use Rattle.volume.specs.declared.Geometry.{Geometry}
 use Rattle.volume.specs.declared.Count.TheVariants.{Nbfree}
 use Rattle.volume.specs.Volume.{byte_at, cg_at, count_place}
-use Rattle.volume.proofs.Laws.{byteAt-mono, byteAt-next, byteAt-add, count-place, total-place, kept-putCount, kept-putTotal}
+use Rattle.volume.proofs.Laws.{byte_at-mono, byte_at-next, byte_at-add, count-place, total-place, kept-put_count, kept-put_total}
 use Rattle.bits.specs.Bits.{bit_at, put_bits_at}
-use Rattle.bits.proofs.BitsLaws.{frag-some, block_in_byte, bit_at-same, kept-bit_at, kept-putBitsAt, bitAt-inside, bitAt-outside, free-bits, bits_at}
+use Rattle.bits.proofs.BitsLaws.{frag-some, block_in_byte, bit_at-same, kept-bit_at, kept-put_bits_at, bit_at-inside, bit_at-outside, free-bits, bits_at}
 use Rattle.sound.specs.Sound.{group_at, free_at}
 use Rattle.frame.specs.Frame.{Frame}
 use Rattle.frame.specs.Writes.{map_write, count_write, total_write}
@@ -62,33 +62,33 @@ pub same-place : (geo : Geometry) (k f g u v j : ℕ) → Range (byte_at geo k f
 same-place geo k f g u v j r lf lo hi lv = by (order g k)
   where
     ends : byte_at geo k (f + 1) ≡ byte_at geo k f + geo.fsize
-    ends = byteAt-add geo k f 1 ∙ omega arith
+    ends = byte_at-add geo k f 1 ∙ omega arith
 
     first : (x : ℕ) → byte_at geo x 0 ≤ byte_at geo x u
-    first x = let z : 0 ≤ u = omega arith in byteAt-mono geo x z
+    first x = let z : 0 ≤ u = omega arith in byte_at-mono geo x z
 
     zeroth : byte_at geo k 0 ≤ byte_at geo k f
-    zeroth = let z : 0 ≤ f = omega arith in byteAt-mono geo k z
+    zeroth = let z : 0 ≤ f = omega arith in byte_at-mono geo k z
 
     here : g ≡ k → Dec (u ≤ f) → Dec (f < v) → (g ≡ k) × (u ≤ f) × (f < v)
     here e (yes a) (yes b) = (e, a, b)
     here e (no a) d =
         let q : f + 1 ≤ u = omega arith in
-        let m = byteAt-mono geo k q in
+        let m = byte_at-mono geo k q in
         let z : byte_at geo g u ≡ byte_at geo k u = ap (λ (x : ℕ). byte_at geo x u) e in
         absurd (let y : ⊥ = omega (arith, ends, m, z, r.1, lo) in y)
     here e (yes a) (no b) =
         let q : v ≤ f = omega arith in
-        let m = byteAt-mono geo k q in
+        let m = byte_at-mono geo k q in
         let z : byte_at geo g v ≡ byte_at geo k v = ap (λ (x : ℕ). byte_at geo x v) e in
         absurd (let y : ⊥ = omega (arith, m, z, r.0, hi) in y)
 
     by : (g < k) ⊎ ((g ≡ k) ⊎ (k < g)) → (g ≡ k) × (u ≤ f) × (f < v)
-    by (inl l) = absurd (let y : ⊥ = omega (arith, byteAt-next geo l, byteAt-mono geo g lv, zeroth, r.0, hi) in y)
+    by (inl l) = absurd (let y : ⊥ = omega (arith, byte_at-next geo l, byte_at-mono geo g lv, zeroth, r.0, hi) in y)
     by (inr (inl e)) = here e (dec_le u f) (dec_lt f v)
     by (inr (inr l)) =
         let q : f + 1 ≤ geo.fpg = omega arith in
-        absurd (let y : ⊥ = omega (arith, byteAt-next geo l, byteAt-mono geo k q, ends, first g, r.1, lo) in y)
+        absurd (let y : ⊥ = omega (arith, byte_at-next geo l, byte_at-mono geo k q, ends, first g, r.1, lo) in y)
 
 module _ (geo : Geometry) (img : List ℕ) (fr : Frame geo img) where
   -- a count or a total stored leaves every map
@@ -99,7 +99,7 @@ module _ (geo : Geometry) (img : List ℕ) (fr : Frame geo img) where
         let t = spots geo img fr k lk in
         let q = count-place Nbfree in
         rw (apply-count geo x g Nbfree v)
-        (kept-bit_at (free_at geo k img) f (kept-putCount geo.order Nbfree (cg_at geo g) v x)
+        (kept-bit_at (free_at geo k img) f (kept-put_count geo.order Nbfree (cg_at geo g) v x)
         (⊎_elim (λ a. inl (omega arith)) (λ a. inr (omega arith))
         (record_apart geo img fr g (count_place Nbfree) 4 k ((group_at geo k img).freeoff + f / 8) 1 lg lk (omega arith) (omega arith) (λ _. inr (omega arith)))))
 
@@ -107,7 +107,7 @@ module _ (geo : Geometry) (img : List ℕ) (fr : Frame geo img) where
     total-bit v x =
         let t = spots geo img fr k lk in
         let q = total-place Nbfree in
-        rw (apply-total geo x Nbfree v) (kept-bit_at (free_at geo k img) f (kept-putTotal geo.order Nbfree v x) (inr (omega arith)))
+        rw (apply-total geo x Nbfree v) (kept-bit_at (free_at geo k img) f (kept-put_total geo.order Nbfree v x) (inr (omega arith)))
 
     bit-if : (go : Bool) (s : Store) (x : List ℕ) → bit_at (apply s x) (free_at geo k img) f ≡ bit_at x (free_at geo k img) f → bit_at (apply_if go s x) (free_at geo k img) f ≡ bit_at x (free_at geo k img) f
     bit-if true s x e = rw (apply_if-yes {go = true} refl s x) e
@@ -128,17 +128,17 @@ module _ (geo : Geometry) (img : List ℕ) (fr : Frame geo img) where
         let t = spots geo img fr k lk in
         let w = block_inside geo img fr g h i.group i.block in
         let z = frag-some geo.frag fr.sizes.frag in
-        kept-bit_at (free_at geo k img) f (kept-putBitsAt 0 img (free_at geo g img) (geo.frag * h) geo.frag)
+        kept-bit_at (free_at geo k img) f (kept-put_bits_at 0 img (free_at geo g img) (geo.frag * h) geo.frag)
         (⊎_elim (λ a. inl (omega arith)) (λ a. inr (omega arith))
         (record_apart geo img fr g ((group_at geo g img).freeoff + geo.frag * h / 8) 1 k ((group_at geo k img).freeoff + f / 8) 1 i.group lk (omega arith) (omega arith) (λ e. absurd (ne e))))
 
     own-bit : (f : ℕ) → geo.frag * h ≤ f → f < geo.frag * h + geo.frag → bit_at cleared (free_at geo g img) f ≡ 0
     unfolding cleared
-    own-bit f lo hi = bitAt-inside 0 img (free_at geo g img) (geo.frag * h) geo.frag (omega arith) in_byte (block-byte geo img fr g h i.group i.block) f lo hi
+    own-bit f lo hi = bit_at-inside 0 img (free_at geo g img) (geo.frag * h) geo.frag (omega arith) in_byte (block-byte geo img fr g h i.group i.block) f lo hi
 
     beside-bit : (f : ℕ) → (f < geo.frag * h) ⊎ (geo.frag * h + geo.frag ≤ f) → bit_at cleared (free_at geo g img) f ≡ bit_at img (free_at geo g img) f
     unfolding cleared
-    beside-bit f o = bitAt-outside 0 img (free_at geo g img) (geo.frag * h) geo.frag (omega arith) in_byte (block-byte geo img fr g h i.group i.block) f o
+    beside-bit f o = bit_at-outside 0 img (free_at geo g img) (geo.frag * h) geo.frag (omega arith) in_byte (block-byte geo img fr g h i.group i.block) f o
 
     cleared-fewer : BitsFewer geo img cleared
     cleared-fewer k f lk lf b = by (ℕ_discrete g k) (dec_le (geo.frag * h) f) (dec_lt f (geo.frag * h + geo.frag))
@@ -167,7 +167,7 @@ module _ (geo : Geometry) (img : List ℕ) (fr : Frame geo img) where
     block-ends-at : byte_at geo g (geo.frag * h + geo.frag) ≡ block_address geo g h * geo.fsize + geo.bsize
     block-ends-at =
         let u = units geo fr.sizes in
-        byteAt-add geo g (geo.frag * h) geo.frag ∙ ap (λ (x : ℕ). byte_at geo g (geo.frag * h) + x) (mul_comm geo.frag geo.fsize ∙ u.frags) ∙ ap (λ (x : ℕ). x + geo.bsize) (sym (block-place geo g h))
+        byte_at-add geo g (geo.frag * h) geo.frag ∙ ap (λ (x : ℕ). byte_at geo g (geo.frag * h) + x) (mul_comm geo.frag geo.fsize ∙ u.frags) ∙ ap (λ (x : ℕ). x + geo.bsize) (sym (block-place geo g h))
 
     block-free : (j : ℕ) → Range (block_address geo g h * geo.fsize) geo.bsize j → Free geo img j
     block-free j r =
@@ -177,7 +177,7 @@ module _ (geo : Geometry) (img : List ℕ) (fr : Frame geo img) where
         let most : d < geo.frag * geo.fsize = omega (arith, r.0, r.1, mul_comm geo.frag geo.fsize, u.frags) in
         let few : d / geo.fsize < geo.frag = (div-lt_iff_lt-mul {k = geo.fsize} unit).1 most in
         let place = block-place geo g h in
-        let at = byteAt-add geo g (geo.frag * h) (d / geo.fsize) in
+        let at = byte_at-add geo g (geo.frag * h) (d / geo.fsize) in
         let below = div-mul-le_self d geo.fsize in
         let above = lt-div-mul-add {a = d} unit in
         record {

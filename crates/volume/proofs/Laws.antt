@@ -30,35 +30,35 @@ bytes_fit {a} {b} ha hb = omega (arith, le_product a b 4294967295 65536 (omega a
 -- ---- `byte_at`: rising in the fragment, and a group's fragments before the next group's
 
 module _ (geo : Geometry) where
-  pub byteAt-eq : (g f : ℕ) → byte_at geo g f ≡ g * geo.fpg * geo.fsize + f * geo.fsize
+  pub byte_at-eq : (g f : ℕ) → byte_at geo g f ≡ g * geo.fpg * geo.fsize + f * geo.fsize
   unfolding byte_at
-  byteAt-eq g f = add-mul (g * geo.fpg) f geo.fsize
+  byte_at-eq g f = add-mul (g * geo.fpg) f geo.fsize
 
-  pub byteAt-mono : (g : ℕ) {f x : ℕ} → f ≤ x → byte_at geo g f ≤ byte_at geo g x
+  pub byte_at-mono : (g : ℕ) {f x : ℕ} → f ≤ x → byte_at geo g f ≤ byte_at geo g x
   unfolding byte_at
-  byteAt-mono g h = mul-le-mul_right geo.fsize (omega arith)
+  byte_at-mono g h = mul-le-mul_right geo.fsize (omega arith)
 
-  pub byteAt-next : {g h : ℕ} → g < h → byte_at geo g geo.fpg ≤ byte_at geo h 0
+  pub byte_at-next : {g h : ℕ} → g < h → byte_at geo g geo.fpg ≤ byte_at geo h 0
   unfolding byte_at
-  byteAt-next {g} {h} l = mul-le-mul_right geo.fsize (omega (arith, suc-mul g geo.fpg, mul-le-mul_right geo.fpg l))
+  byte_at-next {g} {h} l = mul-le-mul_right geo.fsize (omega (arith, suc-mul g geo.fpg, mul-le-mul_right geo.fpg l))
 
-  pub byteAt-add : (g f n : ℕ) → byte_at geo g (f + n) ≡ byte_at geo g f + n * geo.fsize
+  pub byte_at-add : (g f n : ℕ) → byte_at geo g (f + n) ≡ byte_at geo g f + n * geo.fsize
   unfolding byte_at
-  byteAt-add g f n = ap (λ (x : ℕ). x * geo.fsize) (omega arith) ∙ add-mul (g * geo.fpg + f) n geo.fsize
+  byte_at-add g f n = ap (λ (x : ℕ). x * geo.fsize) (omega arith) ∙ add-mul (g * geo.fpg + f) n geo.fsize
 
   -- an address is its group and its place there
-  pub byteAt-address : (a : ℕ) → byte_at geo (a / geo.fpg) (a % geo.fpg) ≡ a * geo.fsize
+  pub byte_at-address : (a : ℕ) → byte_at geo (a / geo.fpg) (a % geo.fpg) ≡ a * geo.fsize
   unfolding byte_at
-  byteAt-address a = ap (λ (x : ℕ). x * geo.fsize) (div-add-mod' a geo.fpg)
+  byte_at-address a = ap (λ (x : ℕ). x * geo.fsize) (div-add-mod' a geo.fpg)
 
   -- a fragment counted inside the image begins inside it
-  pub byteAt-inside : (g f n : ℕ) → g * geo.fpg + f ≤ n / geo.fsize → byte_at geo g f ≤ n
+  pub byte_at-inside : (g f n : ℕ) → g * geo.fpg + f ≤ n / geo.fsize → byte_at geo g f ≤ n
   unfolding byte_at
-  byteAt-inside g f n h = le_trans (mul-le-mul_right geo.fsize h) (div-mul-le_self n geo.fsize)
+  byte_at-inside g f n h = le_trans (mul-le-mul_right geo.fsize h) (div-mul-le_self n geo.fsize)
 
-  pub inodeAt-eq : (i : ℕ) → inode_at geo i ≡ byte_at geo (i / geo.ipg) geo.iblkno + i % geo.ipg * 256
+  pub inode_at-eq : (i : ℕ) → inode_at geo i ≡ byte_at geo (i / geo.ipg) geo.iblkno + i % geo.ipg * 256
   unfolding inode_at
-  inodeAt-eq i = refl
+  inode_at-eq i = refl
 
 pub geometry_order : (img : List ℕ) → (geometry_of img).order ≡ Little
 unfolding geometry_of
@@ -99,49 +99,49 @@ total-count Nifree = refl
 total-count Nffree = refl
 
 module _ (o : Order) (c : Count) (at v : ℕ) (img : List ℕ) where
-  pub length-putCount : length (put_count o c at v img) ≡ length img
+  pub length-put_count : length (put_count o c at v img) ≡ length img
   unfolding put_count
-  length-putCount = length-put_num o 4 (at + count_place c) v img
+  length-put_count = length-put_num o 4 (at + count_place c) v img
 
-  pub putCount-is : put_count o c at v img ≡ put_num o 4 (at + count_place c) v img
+  pub put_count-is : put_count o c at v img ≡ put_num o 4 (at + count_place c) v img
   unfolding put_count
-  putCount-is = refl
+  put_count-is = refl
 
-  pub kept-putCount : Kept (at + count_place c) 4 img (put_count o c at v img)
+  pub kept-put_count : Kept (at + count_place c) 4 img (put_count o c at v img)
   unfolding put_count
-  kept-putCount = kept-put_num o 4 (at + count_place c) v img
+  kept-put_count = kept-put_num o 4 (at + count_place c) v img
 
-  pub count-putCount : v < 256 ^ 4 → at + 168 ≤ length img → count_at o c at (put_count o c at v img) ≡ v
+  pub count-put_count : v < 256 ^ 4 → at + 168 ≤ length img → count_at o c at (put_count o c at v img) ≡ v
   unfolding put_count count_at
-  count-putCount b l = let p = count-place c in num-put_num o 4 (at + count_place c) v img b (omega arith)
+  count-put_count b l = let p = count-place c in num-put_num o 4 (at + count_place c) v img b (omega arith)
 
   -- another count is as it was
-  pub count-putCount-other : (d : Count) → (c ≡ d → ⊥) → count_at o d at (put_count o c at v img) ≡ count_at o d at img
+  pub count-put_count-other : (d : Count) → (c ≡ d → ⊥) → count_at o d at (put_count o c at v img) ≡ count_at o d at img
   unfolding count_at
-  count-putCount-other d n =
-      kept-num o 4 (at + count_place d) kept-putCount (⊎_elim (λ l. inr (omega arith)) (λ l. inl (omega arith)) (counts-apart c d n))
+  count-put_count-other d n =
+      kept-num o 4 (at + count_place d) kept-put_count (⊎_elim (λ l. inr (omega arith)) (λ l. inl (omega arith)) (counts-apart c d n))
 
 module _ (o : Order) (c : Count) (v : ℕ) (img : List ℕ) where
-  pub length-putTotal : length (put_total o c v img) ≡ length img
+  pub length-put_total : length (put_total o c v img) ≡ length img
   unfolding put_total
-  length-putTotal = length-put_num o 8 (sb_at + total_place c) v img
+  length-put_total = length-put_num o 8 (sb_at + total_place c) v img
 
-  pub putTotal-is : put_total o c v img ≡ put_num o 8 (sb_at + total_place c) v img
+  pub put_total-is : put_total o c v img ≡ put_num o 8 (sb_at + total_place c) v img
   unfolding put_total
-  putTotal-is = refl
+  put_total-is = refl
 
-  pub kept-putTotal : Kept (sb_at + total_place c) 8 img (put_total o c v img)
+  pub kept-put_total : Kept (sb_at + total_place c) 8 img (put_total o c v img)
   unfolding put_total
-  kept-putTotal = kept-put_num o 8 (sb_at + total_place c) v img
+  kept-put_total = kept-put_num o 8 (sb_at + total_place c) v img
 
-  pub total-putTotal : v < 256 ^ 8 → 66912 ≤ length img → total_at o c (put_total o c v img) ≡ v
+  pub total-put_total : v < 256 ^ 8 → 66912 ≤ length img → total_at o c (put_total o c v img) ≡ v
   unfolding put_total total_at
-  total-putTotal b l = let p = total-place c in num-put_num o 8 (sb_at + total_place c) v img b (omega arith)
+  total-put_total b l = let p = total-place c in num-put_num o 8 (sb_at + total_place c) v img b (omega arith)
 
-  pub total-putTotal-other : (d : Count) → (c ≡ d → ⊥) → total_at o d (put_total o c v img) ≡ total_at o d img
+  pub total-put_total-other : (d : Count) → (c ≡ d → ⊥) → total_at o d (put_total o c v img) ≡ total_at o d img
   unfolding total_at
-  total-putTotal-other d n =
-      kept-num o 8 (sb_at + total_place d) kept-putTotal
+  total-put_total-other d n =
+      kept-num o 8 (sb_at + total_place d) kept-put_total
       (⊎_elim (λ l. inr (omega (arith, total-count c, total-count d, count-place c, count-place d))) (λ l. inl (omega (arith, total-count c, total-count d, count-place c, count-place d))) (counts-apart c d n))
 
 -- ---- records outside the bytes that change are as they were

@@ -14,7 +14,7 @@ use Rattle.store.proofs.OnlyLaws.{kept-but-more, kept-but-num}
 use Rattle.volume.specs.declared.Geometry.{Geometry}
 use Rattle.volume.specs.declared.Volume.{Volume}
 use Rattle.volume.specs.Volume.{byte_at, inode_at}
-use Rattle.volume.proofs.Laws.{byteAt-next, inodeAt-eq}
+use Rattle.volume.proofs.Laws.{byte_at-next, inode_at-eq}
 use Rattle.sound.specs.declared.Taken.TheVariants.{Sound}
 use Rattle.sound.specs.Test.{taken_of}
 use Rattle.frame.specs.Frame.{Frame}
@@ -119,15 +119,15 @@ module _ (geo : Geometry) (img : List ℕ) (fr : Frame geo img) (i k : ℕ) (ne 
       let pl = p.last in
       let wf = w.first in
       let wl = w.last in
-      ⊎_elim (λ l. omega (arith, byteAt-next geo l, r.0, r.1, q.0, q.1))
-      (λ x. ⊎_elim (λ e. same e) (λ l. omega (arith, byteAt-next geo l, r.0, r.1, q.0, q.1)) x)
+      ⊎_elim (λ l. omega (arith, byte_at-next geo l, r.0, r.1, q.0, q.1))
+      (λ x. ⊎_elim (λ e. same e) (λ l. omega (arith, byte_at-next geo l, r.0, r.1, q.0, q.1)) x)
       (order g h)
     where
       same : i / geo.ipg ≡ k / geo.ipg → ⊥
       same e =
           let m : byte_at geo (i / geo.ipg) geo.iblkno ≡ byte_at geo (k / geo.ipg) geo.iblkno = ap (λ (g : ℕ). byte_at geo g geo.iblkno) e in
           let d : i / geo.ipg * geo.ipg ≡ k / geo.ipg * geo.ipg = ap (λ (g : ℕ). g * geo.ipg) e in
-          let equal : i % geo.ipg ≡ k % geo.ipg = omega (arith, inodeAt-eq geo i, inodeAt-eq geo k, m, r.0, r.1, q.0, q.1) in
+          let equal : i % geo.ipg ≡ k % geo.ipg = omega (arith, inode_at-eq geo i, inode_at-eq geo k, m, r.0, r.1, q.0, q.1) in
           ne (omega (arith, div-add-mod' i geo.ipg, div-add-mod' k geo.ipg, d, equal))
 
 -- ---- the public call

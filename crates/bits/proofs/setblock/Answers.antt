@@ -3,8 +3,8 @@ use borrow.Author.Rules.{rules}
 use mathlib.Core.Path.{sym}
 use Prim.Native.Nat.{◌*◌}
 use Rattle.bits.specs.Upto.{as_bit}
-use Rattle.bits.proofs.BitsLaws.{putBitsAt-set}
+use Rattle.bits.proofs.BitsLaws.{put_bits_at-set}
 use Rattle.bits.proofs.setblock.Goals as goal
 
 pub returns : goal.returns
-returns c = let a = c.args in rw (c.map_byte-k.ensures, c.block_byte-b.ensures) (sym (putBitsAt-set (as_bit a.free) a.img.now a.at (a.frag * a.h) a.frag))
+returns c = let a = c.args in rw (c.map_byte-k.ensures, c.block_byte-b.ensures) (sym (put_bits_at-set (as_bit a.free) a.img.now a.at (a.frag * a.h) a.frag))

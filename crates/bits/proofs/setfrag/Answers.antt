@@ -2,8 +2,8 @@
 use borrow.Author.Rules.{rules}
 use mathlib.Core.Path.{sym}
 use Rattle.bits.specs.Upto.{as_bit}
-use Rattle.bits.proofs.BitsLaws.{putBitsAt-set}
+use Rattle.bits.proofs.BitsLaws.{put_bits_at-set}
 use Rattle.bits.proofs.setfrag.Goals as goal
 
 pub returns : goal.returns
-returns c = let a = c.args in rw c.frag_byte-b.ensures (sym (putBitsAt-set (as_bit a.free) a.img.now a.at a.f 1))
+returns c = let a = c.args in rw c.frag_byte-b.ensures (sym (put_bits_at-set (as_bit a.free) a.img.now a.at a.f 1))
