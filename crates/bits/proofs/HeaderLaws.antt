@@ -6,16 +6,16 @@ use mathlib.Core.Logic.{◌⊎◌, inl, inr, ◌↔◌}
 use Prim.Native.Nat.{ℕ, zero, suc, ◌+◌, ◌*◌, ◌/◌, ◌%◌, ◌≤◌, ◌<◌}
 use native.Mathlib.Nat.{mul_comm}
 use native.Mathlib.Omega.{arith}
-use native.Mathlib.Decide.{dec_lt, ℕ_discrete}
+use native.Mathlib.Decide.{dec_lt}
 use borrow.Author.Tests.{eq-eqb, eqb-true, eqb-false, ne_eqb}
 use lib.Dec.{T, eqb}
-use lib.ListN.{length, get_or}
+use lib.ListN.{length}
 use Rattle.field.specs.Field.{part, Bytes}
 use Rattle.field.proofs.Laws.{get_or-part, length-part, part-bytes}
 use Rattle.headers.specs.Maps.{isset, setbit, clrbit, Frag, frags, isblock, isfreeblock, setblock, clrblock}
 use Rattle.headers.proofs.MapLaws.{isset-read, setbit-same, setbit-other, clrbit-same, clrbit-other}
 use Rattle.headers.proofs.BlockLaws.{isblock-bits, isfreeblock-bits, setblock-in, setblock-out, clrblock-in, clrblock-out}
-use Rattle.bits.specs.Bits.{frag_free, bit_at, bits_are, block_free, block_full, put_bits_at}
+use Rattle.bits.specs.Bits.{frag_free, bit_at, block_free, block_full, put_bits_at}
 use Rattle.bits.proofs.BitsLaws.{frag-free, free-bit, bit_at-two, bits_at, bits-hold, free-bits, full-bits, bit_at-inside, bit_at-outside, length-put_bits_at}
 
 T-true : (b : Bool) → T b → b ≡ true

@@ -7,7 +7,7 @@ use native.Mathlib.Nat.{pow-succ', div-div-eq-div-mul, div-one, one-le-pow, zero
 use native.Mathlib.Omega.{arith}
 use lib.Dec.{T, leb, leb→le, lit<}
 use lib.Arith.{mod-mul}
-use lib.ListN.{length, get_or, take, drop, set, length-take, length-drop, take-append-drop, length-append, length-reverse, length-replicate, replicate}
+use lib.ListN.{length, get_or, take, drop, set, length-take, length-drop, take-append-drop, length-reverse, length-replicate}
 use Rattle.field.specs.declared.Order.{Order}
 use Rattle.field.specs.declared.Order.TheVariants.{Little, Big}
 use lib.Seq.{sets, length-sets, sets-eq, get_or-set_other, get_or-take, get_or-drop, take-add, take-suc, drop-drop, ext_get_or, take-append_seam, drop_at, length-take-le}

@@ -1,17 +1,15 @@
 -- The records are those of FreeBSD's fs.h: each field that is read or written stands where the header's struct has it. Assumes nothing.
-use mathlib.Core.Path.{◌≡◌, refl, sym, ap, ◌∙◌}
+use mathlib.Core.Path.{◌≡◌, refl, sym}
 use mathlib.Core.List.{List}
-use Prim.Native.Nat.{ℕ, ◌+◌, ◌*◌, ◌/◌, ◌%◌}
-use native.Mathlib.Omega.{arith}
+use Prim.Native.Nat.{ℕ, ◌+◌, ◌*◌, ◌%◌}
 use Rattle.field.specs.declared.Order.{Order}
 use Rattle.field.specs.declared.Order.TheVariants.{Little}
-use Rattle.headers.specs.Layout.{CType, Designator, member, ◌‣◌}
+use Rattle.headers.specs.Layout.{Designator, member, ◌‣◌}
 use Rattle.headers.specs.Fs.{fs, cg, SBLOCK_UFS2}
-use Rattle.headers.specs.Macros.{Sizes, INOPB, cgtod, cgsblock, ino_to_fsba, ino_to_fsbo}
+use Rattle.headers.specs.Macros.{Sizes, INOPB, cgtod, ino_to_fsba, ino_to_fsbo}
 use Rattle.headers.specs.Read.{field_at, put_field}
 use Rattle.headers.proofs.MacroLaws.{ino_place, cgtod-place}
 use Rattle.volume.specs.declared.Geometry.{Geometry}
-use Rattle.volume.specs.declared.Group.{Group}
 use Rattle.volume.specs.declared.Count.{Count}
 use Rattle.volume.specs.declared.Count.TheVariants.{Nbfree, Nifree, Nffree}
 use Rattle.volume.specs.Volume.{sb_at, geometry_of, magic_at, byte_at, cg_at, inode_at, group_magic_at, group_of, count_place, count_at, put_count, total_place, total_at, put_total}

@@ -1,8 +1,8 @@
 -- The laws of `specs/Volume.antt`: products that fit, the order of places, and what is written of a count reads back. Assumes nothing.
-use mathlib.Core.Path.{◌≡◌, refl, sym, ap, ◌∙◌}
+use mathlib.Core.Path.{◌≡◌, refl, ap, ◌∙◌}
 use mathlib.Core.List.{List}
 use mathlib.Core.Logic.{◌⊎◌, inl, inr, ⊎_elim}
-use Prim.Native.Nat.{ℕ, zero, suc, ◌+◌, ◌-◌, ◌*◌, ◌/◌, ◌%◌, ◌^◌, ◌≤◌, ◌<◌}
+use Prim.Native.Nat.{ℕ, ◌+◌, ◌-◌, ◌*◌, ◌/◌, ◌%◌, ◌^◌, ◌≤◌, ◌<◌}
 use native.Mathlib.Nat.{mul-le-mul, mul-le-mul_right, add-mul, suc-mul, le_trans, div-mul-le_self, div-add-mod'}
 use native.Mathlib.Omega.{arith}
 use lib.ListN.{length}
@@ -11,7 +11,6 @@ use Rattle.field.specs.declared.Order.{Order}
 use Rattle.field.specs.declared.Order.TheVariants.{Little}
 use Rattle.field.proofs.Laws.{length-put_num, num-put_num, kept-put_num, kept-num}
 use Rattle.volume.specs.declared.Geometry.{Geometry}
-use Rattle.volume.specs.declared.Group.{Group}
 use Rattle.volume.specs.declared.Count.{Count}
 use Rattle.volume.specs.declared.Count.TheVariants.{Nbfree, Nifree, Nffree}
 use Rattle.volume.specs.Volume.{sb_at, geometry_of, magic_at, byte_at, inode_at, group_magic_at, group_of, count_place, count_at, put_count, total_place, total_at, put_total}

@@ -1,5 +1,5 @@
 -- A signed number of n bytes, kept as its residue modulo 256 ^ n. Assumes nothing: these are definitions.
-use Rattle.std.specs.Prelude.{Bool, true, false, ℕ, zero, suc, ◌+◌, ◌-◌, ◌*◌, ◌/◌, ◌^◌, ltb, ℤ, pos, negsuc}
+use Rattle.std.specs.Prelude.{Bool, true, false, ℕ, ◌+◌, ◌-◌, ◌^◌, ltb, ℤ, pos, negsuc}
 
 abbrev pick_int : Bool → ℤ → ℤ → ℤ
 pick_int true a b = a

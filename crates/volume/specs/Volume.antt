@@ -1,8 +1,8 @@
 -- 01, "The volume that is taken": where the records lie and what stands in them. Assumes nothing: these are definitions.
-use Rattle.std.specs.Prelude.{List, ℕ, ◌+◌, ◌*◌, ◌/◌, ◌%◌, ◌^◌, ◌<◌}
+use Rattle.std.specs.Prelude.{List, ℕ, ◌+◌, ◌*◌, ◌/◌, ◌%◌}
 use Rattle.field.specs.Field.{num, put_num}
 use Rattle.field.specs.declared.Order.{Order}
-use Rattle.field.specs.declared.Order.TheVariants.{Little, Big}
+use Rattle.field.specs.declared.Order.TheVariants.{Little}
 use Rattle.volume.specs.declared.Geometry.{Geometry}
 use Rattle.volume.specs.declared.Group.{Group}
 use Rattle.volume.specs.declared.Count.{Count}

@@ -1,5 +1,4 @@
 -- `all_free` meets its contract: the shifted byte's rest is compared with a run of ones. Assumes nothing.
-use borrow.Author.Rules.{rules}
 use Rattle.bits.proofs.all_free.Goals as goal
 
 pub returns : goal.returns

@@ -1,5 +1,4 @@
 -- `block_byte` meets its contract: each arm changes the byte and the bits that `arm-byte` and `arm-bit` say. Assumes nothing.
-use borrow.Author.Rules.{rules}
 use native.Mathlib.Omega.{arith}
 use Prim.Native.Nat.{◌*◌, ◌/◌, ◌%◌}
 use Rattle.bits.proofs.BitsLaws.{arm-byte, arm-put, last_arm}

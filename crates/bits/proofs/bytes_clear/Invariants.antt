@@ -1,11 +1,8 @@
 -- `bytes_clear` meets its contract: the bytes passed are 0. Assumes nothing.
-use borrow.Author.Rules.{rules}
-use mathlib.Core.Path.{◌≡◌, sym}
+use mathlib.Core.Path.{◌≡◌}
 use mathlib.Core.Bool.{true}
-use Prim.Native.Nat.{◌+◌, ◌-◌, ◌*◌, ◌≤◌}
-use native.Mathlib.Omega.{arith}
+use Prim.Native.Nat.{◌-◌, ◌*◌, ◌≤◌}
 use Rattle.bits.specs.Bits.{bits_are}
-use Rattle.bits.proofs.BitsLaws.{bits_none, bytes-more, bytes-fail}
 use Rattle.bits.proofs.bytes_clear.Given as goal
 
 abbrev pub invariant-loop-k : goal.invariant-loop-k

@@ -1,6 +1,4 @@
 -- `clear_bits` meets its contract: the run is parted by `bits-bytes`, or stands within one byte. Assumes nothing.
-use borrow.Author.Rules.{rules}
-use borrow.Author.Tests.{not-true, not-false}
 use mathlib.Core.Path.{◌∙◌, sym}
 use Prim.Native.Nat.{◌+◌, ◌/◌}
 use native.Mathlib.Omega.{arith}

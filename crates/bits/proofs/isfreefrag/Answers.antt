@@ -1,5 +1,4 @@
 -- `isfreefrag` meets its contract. Assumes nothing.
-use borrow.Author.Rules.{rules}
 use Rattle.bits.proofs.BitsLaws.{frag-free}
 use Rattle.bits.proofs.isfreefrag.Goals as goal
 

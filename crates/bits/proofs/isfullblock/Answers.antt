@@ -1,5 +1,4 @@
 -- `isfullblock` meets its contract: each arm reads the byte and the bits that `arm-byte` and `arm-bit` say. Assumes nothing.
-use borrow.Author.Rules.{rules}
 use mathlib.Core.Path.{◌∙◌, sym, ap}
 use Prim.Native.Nat.{ℕ, ◌+◌, ◌*◌}
 use native.Mathlib.Omega.{arith}

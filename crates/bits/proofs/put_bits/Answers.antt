@@ -1,5 +1,4 @@
 -- `put_bits` meets its contract: the sum that it makes is `put_bits`, which is a byte. Assumes nothing.
-use borrow.Author.Rules.{rules}
 use native.Mathlib.Nat.{div-mul-le_self}
 use native.Mathlib.Omega.{arith}
 use Rattle.bits.proofs.ByteLaws.{put-sum, put-sum-lt, run-room}

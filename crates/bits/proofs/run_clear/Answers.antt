@@ -1,5 +1,4 @@
 -- `run_clear` meets its contract: a run within one byte is one test, `bits-byte`. Assumes nothing.
-use borrow.Author.Rules.{rules}
 use mathlib.Core.Path.{sym}
 use native.Mathlib.Nat.{zero-mul}
 use native.Mathlib.Omega.{arith}

@@ -1,5 +1,4 @@
 -- `setblock` meets its contract: one byte is stored. Assumes nothing.
-use borrow.Author.Rules.{rules}
 use mathlib.Core.Path.{sym}
 use Prim.Native.Nat.{◌*◌}
 use Rattle.bits.specs.Upto.{as_bit}

@@ -1,5 +1,4 @@
 -- `setfrag` meets its contract: one byte is stored. Assumes nothing.
-use borrow.Author.Rules.{rules}
 use mathlib.Core.Path.{sym}
 use Rattle.bits.specs.Upto.{as_bit}
 use Rattle.bits.proofs.BitsLaws.{put_bits_at-set}

@@ -1,5 +1,4 @@
 -- `two_to` meets its contract: a power of at most 8 does not wrap. Assumes nothing.
-use borrow.Author.Rules.{rules}
 use native.Mathlib.Omega.{arith}
 use lib.Pow.{pow_mono, pow_pos}
 use Rattle.bits.proofs.two_to.Goals as goal

@@ -1,12 +1,9 @@
 -- `field::copy_bytes` meets its contract: after i turns the first i bytes of the run are written. Assumes nothing.
 use borrow.Author.Rules.{rules}
-use mathlib.Core.Path.{◌≡◌}
 use native.Mathlib.Numerals.{add-one}
 use native.Mathlib.Omega.{arith}
-use Prim.Native.Nat.{◌-◌, ◌≤◌}
-use lib.ListN.{length, take}
 use lib.Seq.{take_all}
-use Rattle.field.specs.Field.{part, put}
+use Rattle.field.specs.Field.{part}
 use Rattle.field.proofs.Laws.{put-none, length-part, put-part-more}
 use Rattle.field.proofs.copy_bytes.Goals as goal
 

@@ -1,5 +1,4 @@
 -- `get_u64` meets its contract. Assumes nothing.
-use borrow.Author.Rules.{rules}
 use native.Mathlib.Omega.{arith}
 use Rattle.field.proofs.Laws.{num_little, num_big}
 use Rattle.field.proofs.get_u64.Goals as goal

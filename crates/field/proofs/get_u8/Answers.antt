@@ -1,5 +1,4 @@
 -- `get_u8` meets its contract. Assumes nothing.
-use borrow.Author.Rules.{rules}
 use Rattle.field.proofs.Laws.{num-byte}
 use Rattle.field.proofs.get_u8.Goals as goal
 

@@ -1,5 +1,4 @@
 -- `put_u32` meets its contract. Assumes nothing.
-use borrow.Author.Rules.{rules}
 use Rattle.field.proofs.Laws.{put_num_little, put_num_big}
 use Rattle.field.proofs.put_u32.Goals as goal
 

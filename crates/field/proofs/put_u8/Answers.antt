@@ -1,5 +1,4 @@
 -- `put_u8` meets its contract. Assumes nothing.
-use borrow.Author.Rules.{rules}
 use Rattle.field.proofs.Laws.{put_num-byte}
 use Rattle.field.proofs.put_u8.Goals as goal
 

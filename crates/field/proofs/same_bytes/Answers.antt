@@ -1,12 +1,10 @@
 -- `field::same_bytes` meets its contract: the bytes passed agree. Assumes nothing.
 use borrow.Author.Count.{below_more}
 use borrow.Author.Rules.{rules}
-use mathlib.Core.Path.{◌≡◌, sym, ap, ◌∙◌}
+use mathlib.Core.Path.{◌≡◌, sym}
 use mathlib.Core.Bool.{true, false}
 use native.Mathlib.Omega.{arith}
-use Prim.Native.Nat.{ℕ, ◌+◌, ◌-◌, ◌≤◌, ◌<◌}
-use lib.ListN.{length, get_or}
-use Rattle.field.specs.Field.{part}
+use Prim.Native.Nat.{ℕ}
 use Rattle.field.proofs.Laws.{part-is, part_at}
 use Rattle.field.proofs.same_bytes.Goals as goal
 

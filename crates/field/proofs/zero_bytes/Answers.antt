@@ -1,12 +1,9 @@
 -- `field::zero_bytes` meets its contract: after i turns the first i zeros are written. Assumes nothing.
 use borrow.Author.Rules.{rules}
-use mathlib.Core.Path.{◌≡◌}
 use native.Mathlib.Numerals.{add-one}
 use native.Mathlib.Omega.{arith}
-use Prim.Native.Nat.{◌-◌, ◌≤◌}
-use lib.ListN.{length, take}
 use lib.Seq.{take_all}
-use Rattle.field.specs.Field.{zeros, put}
+use Rattle.field.specs.Field.{zeros}
 use Rattle.field.proofs.Laws.{put-none, length-zeros, put-zeros-more}
 use Rattle.field.proofs.zero_bytes.Goals as goal
 

@@ -1,5 +1,4 @@
 -- `number` gives the number of its refusal, arm by arm, by `number_of`'s cases. Assumes nothing.
-use borrow.Author.Rules.{rules}
 use mathlib.Core.Path.{sym, ap}
 use Rattle.refusal.specs.Refusal.{number_of}
 use Rattle.refusal.proofs.number.Goals as goal

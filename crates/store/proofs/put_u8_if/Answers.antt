@@ -1,5 +1,4 @@
 -- `put_u8_if` makes the store if it is to be made, by the law of `apply_if` over the width. Assumes nothing.
-use borrow.Author.Rules.{rules}
 use mathlib.Core.Path.{sym, ◌∙◌}
 use Rattle.store.proofs.StoreLaws.{apply_if-number, apply_if_no}
 use Rattle.store.proofs.put_u8_if.Goals as goal

@@ -1,5 +1,4 @@
 -- `bytes_of` meets its contract. Assumes nothing.
-use borrow.Author.Rules.{rules}
 use native.Mathlib.Omega.{arith}
 use mathlib.Core.Path.{refl}
 use Rattle.volume.proofs.Laws.{bytes_fit}

@@ -1,5 +1,4 @@
 -- `count_place` meets its contract. Assumes nothing.
-use borrow.Author.Rules.{rules}
 use native.Mathlib.Omega.{arith}
 use Rattle.volume.specs.Volume.{count_place}
 use Rattle.volume.proofs.count_place.Goals as goal

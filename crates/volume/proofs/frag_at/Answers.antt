@@ -1,5 +1,4 @@
 -- `frag_at` meets its contract. Assumes nothing.
-use borrow.Author.Rules.{rules}
 use native.Mathlib.Omega.{arith}
 use Rattle.volume.specs.Volume.{byte_at}
 use Rattle.volume.proofs.frag_at.Goals as goal

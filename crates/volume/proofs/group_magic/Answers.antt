@@ -1,5 +1,4 @@
 -- `group_magic` meets its contract. Assumes nothing.
-use borrow.Author.Rules.{rules}
 use Rattle.volume.specs.Volume.{group_magic_at}
 use Rattle.volume.proofs.group_magic.Goals as goal
 

@@ -1,5 +1,4 @@
 -- `ino_to_fso` meets its contract. Assumes nothing.
-use borrow.Author.Rules.{rules}
 use mathlib.Core.Path.{◌≡◌, sym}
 use Prim.Native.Nat.{◌/◌}
 use native.Mathlib.Omega.{arith}

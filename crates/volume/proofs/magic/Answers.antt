@@ -1,5 +1,4 @@
 -- `magic` meets its contract. Assumes nothing.
-use borrow.Author.Rules.{rules}
 use Rattle.volume.specs.Volume.{magic_at}
 use Rattle.volume.proofs.magic.Goals as goal
 

@@ -1,5 +1,4 @@
 -- `product` meets its contract. Assumes nothing.
-use borrow.Author.Rules.{rules}
 use native.Mathlib.Omega.{arith}
 use mathlib.Core.Path.{refl}
 use Rattle.volume.proofs.Laws.{product_fits}

@@ -1,5 +1,4 @@
 -- `put_count` meets its contract. Assumes nothing.
-use borrow.Author.Rules.{rules}
 use Rattle.volume.specs.Volume.{put_count}
 use Rattle.volume.proofs.put_count.Goals as goal
 

@@ -1,5 +1,4 @@
 -- `put_total` meets its contract. Assumes nothing.
-use borrow.Author.Rules.{rules}
 use Rattle.volume.specs.Volume.{put_total}
 use Rattle.volume.proofs.put_total.Goals as goal
 

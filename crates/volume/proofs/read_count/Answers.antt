@@ -1,5 +1,4 @@
 -- `read_count` meets its contract. Assumes nothing.
-use borrow.Author.Rules.{rules}
 use Rattle.volume.specs.Volume.{count_at}
 use Rattle.volume.proofs.read_count.Goals as goal
 

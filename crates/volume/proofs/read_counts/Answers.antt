@@ -1,5 +1,4 @@
 -- `read_counts` meets its contract. Assumes nothing.
-use borrow.Author.Rules.{rules}
 use Rattle.volume.proofs.read_counts.Goals as goal
 
 pub returns : goal.returns

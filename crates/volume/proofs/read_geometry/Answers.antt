@@ -1,5 +1,4 @@
 -- `read_geometry` meets its contract. Assumes nothing.
-use borrow.Author.Rules.{rules}
 use Rattle.volume.specs.Volume.{geometry_of}
 use Rattle.volume.proofs.read_geometry.Goals as goal
 

@@ -1,5 +1,4 @@
 -- `read_group` meets its contract. Assumes nothing.
-use borrow.Author.Rules.{rules}
 use Rattle.volume.specs.Volume.{group_of}
 use Rattle.volume.proofs.read_group.Goals as goal
 

@@ -1,5 +1,4 @@
 -- `read_total` meets its contract. Assumes nothing.
-use borrow.Author.Rules.{rules}
 use Rattle.volume.specs.Volume.{total_at}
 use Rattle.volume.proofs.read_total.Goals as goal
 

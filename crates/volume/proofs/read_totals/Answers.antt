@@ -1,5 +1,4 @@
 -- `read_totals` meets its contract. Assumes nothing.
-use borrow.Author.Rules.{rules}
 use Rattle.volume.proofs.read_totals.Goals as goal
 
 pub returns : goal.returns

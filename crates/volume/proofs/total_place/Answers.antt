@@ -1,5 +1,4 @@
 -- `total_place` meets its contract. Assumes nothing.
-use borrow.Author.Rules.{rules}
 use native.Mathlib.Omega.{arith}
 use Rattle.volume.specs.Volume.{total_place}
 use Rattle.volume.proofs.total_place.Goals as goal
