@@ -23,12 +23,11 @@ pub overflow_add-i : goal.overflow_add-i
 overflow_add-i c = omega (arith, c.loop-h.invariant.1 (omega arith), block-ends c.args.frag c.loop-h.h c.args.nb (omega arith))
 
 pub loop-h-preserved : goal.loop-h-preserved
-loop-h-preserved c =
-    (
-      omega arith,
-      λ u. walk-on c.args.frag c.loop-h.i c.loop-h.h c.per_byte-per.result _ c.args.nb c.requires.0 c.per_byte-per.ensures.0 (c.loop-h.invariant.1 (omega arith)) c.least-to.ensures u,
-      omega (arith, c.blocks_in_byte-total.ensures),
-    )
+loop-h-preserved c = (
+  omega arith,
+  λ u. walk-on c.args.frag c.loop-h.i c.loop-h.h c.per_byte-per.result _ c.args.nb c.requires.0 c.per_byte-per.ensures.0 (c.loop-h.invariant.1 (omega arith)) c.least-to.ensures u,
+  omega (arith, c.blocks_in_byte-total.ensures),
+)
 
 pub returns : goal.returns
 returns c = let e : c.loop-h.h ≡ c.args.nb = omega arith in cc

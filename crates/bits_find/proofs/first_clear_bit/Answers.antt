@@ -21,12 +21,11 @@ returns-in-At c =
     sym (first-clear-is _ _ _ ∙ c.loop-f.invariant.2 ∙ first-stop _ _ c.loop-f.f _ (omega arith) (omega arith) (sym c.clear_in_byte-found.ensures ∙ c.in-At.is))
 
 pub loop-f-preserved : goal.loop-f-preserved
-loop-f-preserved c =
-    (
-      omega arith,
-      λ u. omega (arith, c.loop-f.invariant.1 (omega arith)),
-      c.loop-f.invariant.2 ∙ first-turn _ _ c.loop-f.f _ (omega arith) (omega arith) (sym c.clear_in_byte-found.ensures ∙ c.in_default.is),
-    )
+loop-f-preserved c = (
+  omega arith,
+  λ u. omega (arith, c.loop-f.invariant.1 (omega arith)),
+  c.loop-f.invariant.2 ∙ first-turn _ _ c.loop-f.f _ (omega arith) (omega arith) (sym c.clear_in_byte-found.ensures ∙ c.in_default.is),
+)
 
 pub returns : goal.returns
 returns c = sym (first-clear-is _ _ _ ∙ c.loop-f.invariant.2 ∙ first-end _ _ c.loop-f.f (omega arith))

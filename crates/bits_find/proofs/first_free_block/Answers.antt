@@ -26,12 +26,11 @@ pub overflow_add-i : goal.overflow_add-i
 overflow_add-i c = omega (arith, c.loop-h.invariant.1 (omega arith), block-ends c.args.frag c.loop-h.h c.args.nb (omega arith))
 
 pub loop-h-preserved : goal.loop-h-preserved
-loop-h-preserved c =
-    (
-      omega arith,
-      λ u. walk-on c.args.frag c.loop-h.i c.loop-h.h c.per_byte-per.result _ c.args.nb c.requires.0 c.per_byte-per.ensures.0 (c.loop-h.invariant.1 (omega arith)) c.least-to.ensures u,
-      c.loop-h.invariant.2 ∙ first-turn _ _ c.loop-h.h _ (omega arith) (omega arith) (sym c.first_in_byte-found.ensures ∙ c.in_default.is),
-    )
+loop-h-preserved c = (
+  omega arith,
+  λ u. walk-on c.args.frag c.loop-h.i c.loop-h.h c.per_byte-per.result _ c.args.nb c.requires.0 c.per_byte-per.ensures.0 (c.loop-h.invariant.1 (omega arith)) c.least-to.ensures u,
+  c.loop-h.invariant.2 ∙ first-turn _ _ c.loop-h.h _ (omega arith) (omega arith) (sym c.first_in_byte-found.ensures ∙ c.in_default.is),
+)
 
 pub returns : goal.returns
 returns c = sym (first-free-is _ _ _ _ ∙ c.loop-h.invariant.2 ∙ first-end _ _ c.loop-h.h (omega arith))

@@ -23,7 +23,7 @@ pub returns-in-At : goal.returns-in-At
 returns-in-At c = piece-at _ _ _ _ _ _ c.in-At.is _ c.address_at.ensures c.copy_bytes.ensures
 
 pub returns-in-Hole : goal.returns-in-Hole
-returns-in-Hole c = piece-hole _ _ _ _ _ _ c.in-Hole.is c.zero_bytes.ensures
+returns-in-Hole c = let s = c.args in piece-hole s.geo _ _ _ _ _ c.in-Hole.is c.zero_bytes.ensures
 
 pub returns-in-Past : goal.returns-in-Past
 returns-in-Past c = let s = c.args in (rw c.in-Past.is, piece-none s.geo s.img.now s.at s.from s.n s.buf.now s.r (ap readable c.in-Past.is))
