@@ -20,5 +20,5 @@ returns c =
     values_are _ _ c.requires.0 _ _ c.requires.1 c.requires.2 _ _ _ _ _ _
     c.cg_addr.ensures.0 r.freeoff refl c.map_byte.ensures
     c.group_count.ensures (ap (λ (t : Totals). t.nbfree) c.read_totals.ensures)
-    _ refl c.block_byte.ensures (omega arith) c.wrapping_add_u32.ensures
+    _ refl c.block_byte.ensures (omega arith) c.wrapping_add_u32.ensures.value
     (ap (λ (t : Totals). t.nbfree) c.totals_after-t.ensures)
