@@ -80,7 +80,7 @@ module _ {Q : ℕ → Type 0} {geo : Geometry} {g : ℕ} (q : CountsIn Q geo g) 
 
   frags-kept : (k f n : ℕ) (img : List ℕ) → KeptBut Q (put_bits_at 1 img (free_at geo g img) f (min k n)) (cut k (frag_stores geo g f n img) img)
   frags-kept k f n img =
-      rw (frag_cut geo g f img k n, maps-cut geo g f img k n) (only-cut (counts-only n _ _ (whole_then geo g f n img)) (k - n) (put_bits_at 1 img (free_at geo g img) f (min k n)))
+      rw (frag_cut geo g f img k n, maps-cut geo g f img k n) (only-cut (counts-only n (counts_of geo.order (cg_at geo g) img) (totals_of geo.order img) (whole_then geo g f n img)) (k - n) (put_bits_at 1 img (free_at geo g img) f (min k n)))
 
   block-kept : (k f : ℕ) (img : List ℕ) → KeptBut Q (put_bits_at 1 img (free_at geo g img) f (pick (ltb 0 k) geo.frag 0)) (cut k (block_stores geo g f img) img)
   block-kept k f img =

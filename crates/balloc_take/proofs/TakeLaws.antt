@@ -219,7 +219,7 @@ module _ {geo : Geometry} {g f n : ℕ} {img : List ℕ} (r : BackRun geo img g 
   maps-kept k e = rw e (maps-frame k)
 
   frags-frame : (k : ℕ) → Frame geo (cut k (frag_stores geo g f n img) img)
-  frags-frame k = rw (frag_cut geo g f img k n) (keeps_cut (counts-keep geo g n _ _ (whole_then geo g f n img) r.group) (k - n) _ (maps-frame k))
+  frags-frame k = rw (frag_cut geo g f img k n) (keeps_cut (counts-keep geo g n (counts_of geo.order (cg_at geo g) img) (totals_of geo.order img) (whole_then geo g f n img) r.group) (k - n) _ (maps-frame k))
 
 block-frame : {geo : Geometry} {g f : ℕ} {img : List ℕ} → BackRun geo img g f geo.frag → (k : ℕ) → Frame geo (cut k (block_stores geo g f img) img)
 block-frame {geo} {g} {f} {img} r k =

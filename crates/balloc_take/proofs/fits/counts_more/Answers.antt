@@ -4,4 +4,4 @@ use Rattle.frame.proofs.WriteLaws.{up-is}
 use Rattle.balloc_take.proofs.fits.counts_more.Goals as goal
 
 pub returns : goal.returns
-returns c = (c.wrapping_add_u32.ensures ∙ sym (up-is 4 _ _), refl)
+returns c = (c.wrapping_add_u32.ensures.value ∙ sym (up-is 4 _ _), refl)

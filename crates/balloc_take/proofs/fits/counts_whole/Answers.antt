@@ -5,4 +5,4 @@ use Rattle.frame.proofs.WriteLaws.{up-is}
 use Rattle.balloc_take.proofs.fits.counts_whole.Goals as goal
 
 pub returns : goal.returns
-returns c = (c.wrapping_add_u32-2.ensures ∙ down-by 4 4294967295 _ _ refl c.requires, c.wrapping_add_u32.ensures ∙ sym (up-is 4 _ _))
+returns c = (c.wrapping_add_u32-2.ensures.value ∙ down-by 4 4294967295 _ _ refl c.requires, c.wrapping_add_u32.ensures.value ∙ sym (up-is 4 _ _))
