@@ -12,7 +12,7 @@ use Rattle.volume.specs.declared.Geometry.{Geometry}
 use Rattle.volume.specs.declared.Count.TheVariants.{Nbfree, Nffree}
 use Rattle.volume.specs.declared.Counts.{Counts}
 use Rattle.volume.specs.declared.Totals.{Totals}
-use Rattle.volume.specs.Volume.{byte_at, cg_at}
+use Rattle.volume.specs.Volume.{byte_at, cg_at, counts_of, totals_of}
 use Rattle.volume.proofs.Laws.{kept-group}
 use Rattle.bits.specs.Bits.{bit_at, put_bits_at}
 use Rattle.bits.proofs.BitsLaws.{kept-bit_at, kept-put_bits_at, put_bits_at-none, bit_at-inside, bit_at-outside}
