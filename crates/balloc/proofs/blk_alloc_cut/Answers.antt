@@ -7,7 +7,7 @@ use Rattle.balloc.proofs.CallLaws.{taken-frame, alloc-unsound, alloc-read-only, 
 use Rattle.balloc.proofs.blk_alloc_cut.Goals as goal
 
 pub returns-then-not-vol : goal.returns-then-not-vol
-returns-then-not-vol c = alloc-read-only _ _ _ _ _ (sym c.take_volume-t.ensures ∙ c.in-Sound.is) (c.if-not-vol.true)
+returns-then-not-vol c = alloc-read-only _ _ _ _ _ (sym c.take_volume-t.ensures ∙ c.in-Sound.is) (not-true _ c.if-not-vol.true)
 
 pub good_size-requires : goal.good_size-requires
 good_size-requires c =
@@ -17,7 +17,7 @@ good_size-requires c =
 pub returns-then-not-good_size : goal.returns-then-not-good_size
 returns-then-not-good_size c =
     alloc-bad-size _ _ _ _ _ (sym c.take_volume-t.ensures ∙ c.in-Sound.is)
-    (c.if-not-vol.false) (sym c.good_size.ensures ∙ c.if-not-good_size.true)
+    (not-false _ c.if-not-vol.false) (sym c.good_size.ensures ∙ c.if-not-good_size.true)
 
 pub blk_alloc_full-r-requires : goal.blk_alloc_full-r-requires
 blk_alloc_full-r-requires c = taken-frame _ _ (sym c.take_volume-t.ensures ∙ c.in-Sound.is)
@@ -26,7 +26,7 @@ pub returns-else-not-good_size : goal.returns-else-not-good_size
 returns-else-not-good_size c =
     rw c.answer_given.ensures
     (alloc-done _ _ _ _ _ (sym c.take_volume-t.ensures ∙ c.in-Sound.is)
-    (c.if-not-vol.false)
+    (not-false _ c.if-not-vol.false)
     (sym c.good_size.ensures ∙ c.if-not-good_size.false)
     _ _ _ _ c.blk_alloc_full-r.ensures refl)
 

@@ -6,7 +6,7 @@ use Rattle.balloc.proofs.CallLaws.{taken-frame, recount-unsound, recount-read-on
 use Rattle.balloc.proofs.recount.Goals as goal
 
 pub returns-then-not-vol : goal.returns-then-not-vol
-returns-then-not-vol c = recount-read-only _ _ _ (sym c.take_volume-t.ensures ∙ c.in-Sound.is) (c.if-not-vol.true)
+returns-then-not-vol c = recount-read-only _ _ _ (sym c.take_volume-t.ensures ∙ c.in-Sound.is) (not-true _ c.if-not-vol.true)
 
 pub recount_all-f-requires : goal.recount_all-f-requires
 recount_all-f-requires c = taken-frame _ _ (sym c.take_volume-t.ensures ∙ c.in-Sound.is)
@@ -14,7 +14,7 @@ recount_all-f-requires c = taken-frame _ _ (sym c.take_volume-t.ensures ∙ c.in
 pub returns-else-not-vol : goal.returns-else-not-vol
 returns-else-not-vol c =
     recount-done _ _ _ (sym c.take_volume-t.ensures ∙ c.in-Sound.is)
-    (c.if-not-vol.false) _ _ c.recount_all-f.ensures
+    (not-false _ c.if-not-vol.false) _ _ c.recount_all-f.ensures
 
 pub returns-in-Unsound : goal.returns-in-Unsound
 returns-in-Unsound c = recount-unsound _ _ (sym c.take_volume-t.ensures ∙ c.in-Unsound.is)
