@@ -14,7 +14,7 @@ use Rattle.store.proofs.OnlyLaws.{only_none, only_stores, only-append, only-more
 use Rattle.volume.specs.declared.Geometry.{Geometry}
 use Rattle.volume.specs.declared.Count.{Count}
 use Rattle.volume.specs.declared.Count.TheVariants.{Nbfree, Nifree, Nffree}
-use Rattle.volume.specs.Volume.{sb_at, byte_at, cg_at, count_place, total_place}
+use Rattle.volume.specs.Volume.{sb_at, byte_at, cg_at, counts_of, totals_of, count_place, total_place}
 use Rattle.volume.proofs.Laws.{count-place, total-place}
 use Rattle.sound.specs.Sound.{group_at, free_at, used_at}
 use Rattle.frame.specs.Frame.{Frame, Outside}
@@ -86,7 +86,7 @@ module _ (geo : Geometry) (img : List ℕ) where
 
       frags-only : Only (Book geo img) (frag_stores geo g f n img)
       unfolding frag_stores
-      frags-only = only-append (maps-only n) (counts-only n _ _ (whole_then geo g f n img))
+      frags-only = only-append (maps-only n) (counts-only n (counts_of geo.order (cg_at geo g) img) (totals_of geo.order img) (whole_then geo g f n img))
 
       block-only : Only (Book geo img) (block_stores geo g f img)
       unfolding block_stores
