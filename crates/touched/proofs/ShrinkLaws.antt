@@ -111,9 +111,9 @@ module _ (geo : Geometry) (start : List ℕ) (fr : Frame geo start) (inode at : 
   -- ---- the zones, the last first
 
   -- the record is read as it was
-  at_address : {A : Type 0} {P : List ℕ → Type 0} (k : ℕ) → k < 15 → (f : ℕ → Act A) (img : List ℕ) → Booked img → ((a : ℕ) → a ≡ address_at geo.order at k start → Always P (f a) img) → Always P (at_address geo at k f) img
+  at_address_lem : {A : Type 0} {P : List ℕ → Type 0} (k : ℕ) → k < 15 → (f : ℕ → Act A) (img : List ℕ) → Booked img → ((a : ℕ) → a ≡ address_at geo.order at k start → Always P (f a) img) → Always P (at_address geo at k f) img
   unfolding at_address
-  at_address k l f img p q = always_at (λ x. f (address_at geo.order at k x)) img (q (address_at geo.order at k img) (address_stays geo start fr p.but inode at is k l))
+  at_address_lem k l f img p q = always_at (λ x. f (address_at geo.order at k x)) img (q (address_at geo.order at k img) (address_stays geo start fr p.but inode at is k l))
 
   -- a zone goes whole, and then what lies below
   then-below : {A B : Type 0} {m : Act A} {f : A → Act B} {img : List ℕ} → Always Booked m img → ((a : A) (x : List ℕ) → Booked x → Always Shrunk (f a) x) → Always Shrunk (m >>= f) img
@@ -131,16 +131,16 @@ module _ (geo : Geometry) (start : List ℕ) (fr : Frame geo start) (inode at : 
   unfolding shrink_low
   shrunk-low keep held l img p =
       always-choose (ltb keep (zone_start (per_list geo) 1))
-      (λ e. then-below (at_address 12 (omega arith) (λ a. free_tree geo s 1 a 0 held) img p (λ a q. booked-tree 1 a 0 held img p)) (λ h x b. always_more (λ y c. wider c) (shrunk-direct keep h x b)))
-      (λ e. at_address 12 (omega arith) (λ a. shrink_list geo s a (zone_start (per_list geo) 1) (keep - zone_start (per_list geo) 1) held) img p
+      (λ e. then-below (at_address_lem 12 (omega arith) (λ a. free_tree geo s 1 a 0 held) img p (λ a q. booked-tree 1 a 0 held img p)) (λ h x b. always_more (λ y c. wider c) (shrunk-direct keep h x b)))
+      (λ e. at_address_lem 12 (omega arith) (λ a. shrink_list geo s a (zone_start (per_list geo) 1) (keep - zone_start (per_list geo) 1) held) img p
       (λ a q. shrunk-list a (first q) (zone_start (per_list geo) 1) (keep - zone_start (per_list geo) 1) held (rw (start-one (per_list geo)) (first-room geo keep l)) img (wider p)))
 
   shrunk-mid : (keep held : ℕ) → 0 < per_list geo → keep < zone_start (per_list geo) 3 → (img : List ℕ) → Booked img → Always Shrunk (shrink_mid geo at s keep held) img
   unfolding shrink_mid
   shrunk-mid keep held z l img p =
       always-choose (ltb keep (zone_start (per_list geo) 2))
-      (λ e. then-below (at_address 13 (omega arith) (λ a. free_tree geo s 2 a 0 held) img p (λ a q. booked-tree 2 a 0 held img p)) (λ h x b. shrunk-low keep h (ltb-true _ _ e) x b))
-      (λ e. at_address 13 (omega arith) (λ a. shrink_lists geo s a (zone_start (per_list geo) 2) (keep - zone_start (per_list geo) 2) held) img p
+      (λ e. then-below (at_address_lem 13 (omega arith) (λ a. free_tree geo s 2 a 0 held) img p (λ a q. booked-tree 2 a 0 held img p)) (λ h x b. shrunk-low keep h (ltb-true _ _ e) x b))
+      (λ e. at_address_lem 13 (omega arith) (λ a. shrink_lists geo s a (zone_start (per_list geo) 2) (keep - zone_start (per_list geo) 2) held) img p
       (λ a q. shrunk-second a q (zone_start (per_list geo) 2) (keep - zone_start (per_list geo) 2) held z (room (ltb-false _ _ e)) img p))
     where
       room : zone_start (per_list geo) 2 ≤ keep → keep - zone_start (per_list geo) 2 < per_list geo * per_list geo
@@ -149,4 +149,4 @@ module _ (geo : Geometry) (start : List ℕ) (fr : Frame geo start) (inode at : 
   pub shrunk-all : (keep : ℕ) → 0 < per_list geo → keep < zone_start (per_list geo) 3 → (img : List ℕ) → Booked img → Always Shrunk (shrink geo at s keep) img
   unfolding shrink
   shrunk-all keep z l img p =
-      then-below (at_address 14 (omega arith) (λ a. free_tree geo s 3 a 0 s.blocks) img p (λ a q. booked-tree 3 a 0 s.blocks img p)) (λ h x b. shrunk-mid keep h z l x b)
+      then-below (at_address_lem 14 (omega arith) (λ a. free_tree geo s 3 a 0 s.blocks) img p (λ a q. booked-tree 3 a 0 s.blocks img p)) (λ h x b. shrunk-mid keep h z l x b)

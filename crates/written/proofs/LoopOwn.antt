@@ -74,8 +74,8 @@ module _ (geo : Geometry) (size at : ℕ) (t : InTable geo at) (off : ℕ) (buf 
         let m : i ≤ (off + length buf - 1) / geo.bsize = omega arith in
         omega (arith, div-mul-le_self (off + length buf - 1) geo.bsize, mul-le-mul m (le_refl geo.bsize))
 
-    within_block : num ≤ geo.bsize - from
-    within_block = min-le_left (geo.bsize - from) (length buf - skip)
+    block_holds : num ≤ geo.bsize - from
+    block_holds = min-le_left (geo.bsize - from) (length buf - skip)
 
     in-buf : num ≤ length buf - skip
     in-buf = min-le_right (geo.bsize - from) (length buf - skip)
@@ -121,7 +121,7 @@ module _ (geo : Geometry) (size at : ℕ) (t : InTable geo at) (off : ℕ) (buf 
     piece-some = omega (arith, long, one)
 
     pub piece-fits : from + length (part num skip buf) ≤ geo.bsize
-    piece-fits = omega (arith, long, within_block, after)
+    piece-fits = omega (arith, long, block_holds, after)
 
     pub piece_inside : i * geo.bsize + (from + length (part num skip buf)) ≤ size
     piece_inside = omega (arith, long, in-buf, before, fits)
