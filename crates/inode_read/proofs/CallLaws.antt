@@ -100,6 +100,6 @@ module _ (img : List ℕ) (i : ℕ) (o : Out Place) (e : place_in img i ≡ o) w
   unfolding inode_resolve_block
   resolve-found idx = rw e
 
-  pub read_found : (off : ℕ) (buf : List ℕ) → inode_read img i off buf ≡ read_found img off buf o
+  pub read_found_lem : (off : ℕ) (buf : List ℕ) → inode_read img i off buf ≡ read_found img off buf o
   unfolding inode_read
-  read_found off buf = rw e
+  read_found_lem off buf = rw e

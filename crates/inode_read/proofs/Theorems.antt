@@ -23,7 +23,7 @@ use Rattle.inode_read.proofs.JudgeLaws.{place-stands}
 use Rattle.inode_read.proofs.FileLaws.{bytes-none, length-bytes, byte_at}
 use Rattle.inode_read.proofs.ReachLaws.{block-some}
 use Rattle.inode_read.proofs.ReadLaws.{stop-good, good-stop, good-parts, parts-good, read_whole, read_short}
-use Rattle.inode_read.proofs.CallLaws.{read_none, read-in-place, read-unsized, read-blocks, read_found}
+use Rattle.inode_read.proofs.CallLaws.{read_none, read-in-place, read-unsized, read-blocks, read_found_lem}
 
 -- ---- the n bytes of a place from `off` on can all be read
 
@@ -137,15 +137,15 @@ good_is img i off buf left m h = by (place_in img i) refl
     by : (o : Out Place) → place_in img i ≡ o → Good img i off (length buf) buf left m
     by (got p) e =
         let n = asked (length buf) p.spot.shape.size off in
-        let q = sym (read_found img i (got p) e off buf) ∙ h in
+        let q = sym (read_found_lem img i (got p) e off buf) ∙ h in
         let f = good_fine p img off n buf left m q in
         let w = sym (fine-whole p img off n buf f) ∙ q in
         record { place = p; found = e; fine = f; left_is = sym (ap (λ (x : List ℕ × Out ℕ). x.0) w); count = (let r = ap (λ (x : List ℕ × Out ℕ). x.1) w in cc) }
-    by (refused r) e = absurd (apart (sym h ∙ read_found img i (refused r) e off buf))
+    by (refused r) e = absurd (apart (sym h ∙ read_found_lem img i (refused r) e off buf))
 
 fine_good : (img : List ℕ) (i off : ℕ) (buf : List ℕ) (p : Place) → place_in img i ≡ got p → Fine p img off (asked (length buf) p.spot.shape.size off)
     → inode_read img i off buf ≡ (put 0 (bytes_of p img off (asked (length buf) p.spot.shape.size off)) buf, got (asked (length buf) p.spot.shape.size off))
-fine_good img i off buf p e f = read_found img i (got p) e off buf ∙ fine-whole p img off _ buf f
+fine_good img i off buf p e f = read_found_lem img i (got p) e off buf ∙ fine-whole p img off _ buf f
 
 -- byte by byte; `byte_of` is 0 in a hole, else the image's byte: FileLaws `byte-hole`, `byte-placed`
 pub read_well : (img : List ℕ) (i off : ℕ) (buf left : List ℕ) (m : ℕ) → inode_read img i off buf ≡ (left, got m) → ReadWell img i off buf left m
@@ -158,7 +158,7 @@ read_well img i off buf left m h =
 pub read-past : (img : List ℕ) (i off : ℕ) (buf : List ℕ) (p : Place) → place_in img i ≡ got p → p.spot.shape.size ≤ off → inode_read img i off buf ≡ (buf, got 0)
 read-past img i off buf p e l =
     let z : asked (length buf) p.spot.shape.size off ≡ 0 = omega (arith, min-le_right (length buf) (p.spot.shape.size - off)) in
-    read_found img i (got p) e off buf ∙ read_none p.geo p.spot img off _ buf z
+    read_found_lem img i (got p) e off buf ∙ read_none p.geo p.spot img off _ buf z
 
 -- ---- what a refusal leaves
 
@@ -181,8 +181,8 @@ read-refused img i off buf left e h = by (place_in img i) refl
     by : (o : Out Place) → place_in img i ≡ o → Refused img i off buf left e
     by (got p) f =
         let n = asked (length buf) p.spot.shape.size off in
-        found p f n refl (sym (read_found img i (got p) f off buf) ∙ h) (ended p img off n buf)
-    by (refused r) f = before (ap (λ (x : List ℕ × Out ℕ). x.0) (sym h ∙ read_found img i (refused r) f off buf))
+        found p f n refl (sym (read_found_lem img i (got p) f off buf) ∙ h) (ended p img off n buf)
+    by (refused r) f = before (ap (λ (x : List ℕ × Out ℕ). x.0) (sym h ∙ read_found_lem img i (refused r) f off buf))
 
 -- so only 97 can leave anything else
 pub refused-kept : (img : List ℕ) (i off : ℕ) (buf left : List ℕ) (e : Refusal) → inode_read img i off buf ≡ (left, refused e) → (e ≡ Damaged → ⊥) → left ≡ buf

@@ -28,7 +28,7 @@ pub slice_bounds-listed_from-end : goal.slice_bounds-listed_from-end
 slice_bounds-listed_from-end c =
     let s = c.args in
     let k = c.loop-k in
-    omega (arith, c.requires.2, k.invariant.0, fetch_long k.buf c.fetch.new.1.1.1.1.1.0 _ (dir_block s.geo s.at s.size s.img.now k.k) c.fetch.ensures)
+    omega (arith, c.requires.2, k.invariant.0, fetch_long k.buf c.fetch.new.buf _ (dir_block s.geo s.at s.size s.img.now k.k) c.fetch.ensures)
 
 pub tell-requires : goal.tell-requires
 unfolding part
@@ -37,7 +37,7 @@ tell-requires c =
     let p = c.requires in
     let k = c.loop-k in
     let l = c.loop-k-test.true in
-    let new = c.fetch.new.1.1.1.1.1.0 in
+    let new = c.fetch.new.buf in
     let long : 512 ≤ length new = omega (arith, p.2, k.invariant.0, fetch_long k.buf new _ (dir_block s.geo s.at s.size s.img.now k.k) c.fetch.ensures) in
     let i = told_inside _ (part 512 0 new) _ _ (length-part 512 0 new long) (sym c.in-At.is ∙ c.listed_from.ensures) in
     (omega (arith, i.ends), omega (arith, i.ends), i.small)
@@ -49,7 +49,7 @@ returns-in-At c =
     let p = c.requires in
     let k = c.loop-k in
     let l = c.loop-k-test.true in
-    let new = c.fetch.new.1.1.1.1.1.0 in
+    let new = c.fetch.new.buf in
     let t = turn-told s.geo s.img.now p.0 s.at s.size (s.size / 512) k.k k.pos k.buf l (omega (arith, l)) (omega (arith, p.2, k.invariant.0)) new _ c.fetch.ensures (c.if-not-fetch.false) in
     let r = t _ (sym c.in-At.is ∙ c.listed_from.ensures) in told_pair new _ c.tell.ensures (sym k.invariant.1 ∙ r)
 
@@ -60,7 +60,7 @@ returns-in-Bad c =
     let p = c.requires in
     let k = c.loop-k in
     let l = c.loop-k-test.true in
-    let new = c.fetch.new.1.1.1.1.1.0 in
+    let new = c.fetch.new.buf in
     let t = turn-bad s.geo s.img.now p.0 s.at s.size (s.size / 512) k.k k.pos k.buf l (omega (arith, l)) (omega (arith, p.2, k.invariant.0)) new _ c.fetch.ensures (c.if-not-fetch.false) in
     ap next_answer (sym (t (sym c.in-Bad.is ∙ c.listed_from.ensures)) ∙ k.invariant.1)
 
@@ -77,7 +77,7 @@ loop-k-preserved c =
     let p = c.requires in
     let k = c.loop-k in
     let l = c.loop-k-test.true in
-    let new = c.fetch.new.1.1.1.1.1.0 in
+    let new = c.fetch.new.buf in
     let t = turn-next s.geo s.img.now p.0 s.at s.size (s.size / 512) k.k k.pos k.buf l (omega (arith, l)) (omega (arith, p.2, k.invariant.0)) new _ c.fetch.ensures (c.if-not-fetch.false) in
     (fetch_long k.buf new _ (dir_block s.geo s.at s.size s.img.now k.k) c.fetch.ensures ∙ k.invariant.0, sym (t (sym c.in-Absent.is ∙ c.listed_from.ensures)) ∙ k.invariant.1)
 

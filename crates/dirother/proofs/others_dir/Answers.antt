@@ -11,10 +11,10 @@ use Rattle.dirother.proofs.OtherLaws.{others, others-start, others-odd}
 use Rattle.dirother.proofs.others_dir.Goals as goal
 
 pub returns-then-not-size : goal.returns-then-not-size
-returns-then-not-size c = others-odd _ _ _ _ (eqb-false _ _ (c.if-not-size.true))
+returns-then-not-size c = others-odd _ _ _ _ ((c.if-not-size.true))
 
 pub loop-k-init : goal.loop-k-init
-loop-k-init c = (omega arith, others-start _ _ _ _ (eqb-true _ _ (c.if-not-size.false)))
+loop-k-init c = (omega arith, others-start _ _ _ _ ((c.if-not-size.false)))
 
 pub other_block-requires : goal.other_block-requires
 other_block-requires c = let p = c.requires in (p.0, p.1, omega (arith, c.loop-k-test.true))

@@ -11,10 +11,10 @@ use Rattle.dirwalk.proofs.WalkLaws.{looks, lookup-start, lookup-odd}
 use Rattle.dirwalk.proofs.lookup_dir.Goals as goal
 
 pub returns-then-not-size : goal.returns-then-not-size
-returns-then-not-size c = lookup-odd _ _ _ _ _ (eqb-false _ _ (c.if-not-size.true))
+returns-then-not-size c = lookup-odd _ _ _ _ _ ((c.if-not-size.true))
 
 pub loop-k-init : goal.loop-k-init
-loop-k-init c = (omega arith, lookup-start _ _ _ _ _ (eqb-true _ _ (c.if-not-size.false)))
+loop-k-init c = (omega arith, lookup-start _ _ _ _ _ ((c.if-not-size.false)))
 
 pub look_block-requires : goal.look_block-requires
 look_block-requires c = let p = c.requires in (p.0, p.1, omega (arith, c.loop-k-test.true))

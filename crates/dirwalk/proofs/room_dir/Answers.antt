@@ -11,10 +11,10 @@ use Rattle.dirwalk.proofs.WalkLaws.{rooms, room_start, room-odd}
 use Rattle.dirwalk.proofs.room_dir.Goals as goal
 
 pub returns-then-not-size : goal.returns-then-not-size
-returns-then-not-size c = room-odd _ _ _ _ _ (eqb-false _ _ (c.if-not-size.true))
+returns-then-not-size c = room-odd _ _ _ _ _ ((c.if-not-size.true))
 
 pub loop-k-init : goal.loop-k-init
-loop-k-init c = (omega arith, room_start _ _ _ _ _ (eqb-true _ _ (c.if-not-size.false)))
+loop-k-init c = (omega arith, room_start _ _ _ _ _ ((c.if-not-size.false)))
 
 pub room_block-requires : goal.room_block-requires
 room_block-requires c = let p = c.requires in (p.0, p.1, omega (arith, c.loop-k-test.true))

@@ -20,7 +20,7 @@ copy_bytes-requires c =
     (p.1, omega (arith, reach-at s.geo s.img.now (s.from + s.n) c.in-At.is p.0, c.address_at.ensures))
 
 pub returns-in-At : goal.returns-in-At
-returns-in-At c = piece-at _ _ _ _ _ _ c.in-At.is _ c.address_at.ensures c.copy_bytes.ensures
+returns-in-At c = let s = c.args in piece-at s.geo _ _ _ _ _ c.in-At.is _ c.address_at.ensures c.copy_bytes.ensures
 
 pub returns-in-Hole : goal.returns-in-Hole
 returns-in-Hole c = let s = c.args in piece-hole s.geo _ _ _ _ _ c.in-Hole.is c.zero_bytes.ensures

@@ -13,10 +13,10 @@ use Rattle.rename_judge.specs.Rename.{rooms_but, room_but}
 use Rattle.rename_judge.proofs.room.room_but.Goals as goal
 
 pub returns-then-not-size : goal.returns-then-not-size
-returns-then-not-size c = but-odd _ _ _ _ _ _ (eqb-false _ _ (c.if-not-size.true))
+returns-then-not-size c = but-odd _ _ _ _ _ _ ((c.if-not-size.true))
 
 pub loop-k-init : goal.loop-k-init
-loop-k-init c = (omega arith, but-start _ _ _ _ _ _ (eqb-true _ _ (c.if-not-size.false)))
+loop-k-init c = (omega arith, but-start _ _ _ _ _ _ ((c.if-not-size.false)))
 
 pub block_but-requires : goal.block_but-requires
 block_but-requires c = (c.requires.0, c.requires.1, omega (arith, c.loop-k-test.true))
