@@ -12,7 +12,7 @@ use Rattle.dirtext.proofs.TextLaws.{line-room, line-next, listed-line, listed-en
 use Rattle.dirtext.proofs.list_block.Given as goal
 
 abbrev pub invariant-loop-e : goal.invariant-loop-e
-invariant-loop-e l = (pos ≤ length l.block) × (length l.pos ≡ length l.initial.out) × (at ≤ 6 * pos) × (wrote at (walk_text l.block (walk_from l.o l.block pos)) l.pos ≡ wrote 0 (walk_text l.block (walk_from l.o l.block 0)) l.initial.out)
+invariant-loop-e l = (l.pos ≤ length l.block) × (length l.out ≡ length l.initial.out) × (l.at ≤ 6 * l.pos) × (wrote l.at (walk_text l.block (walk_from l.o l.block l.pos)) l.out ≡ wrote 0 (walk_text l.block (walk_from l.o l.block 0)) l.initial.out)
 
 abbrev pub decreases-loop-e : goal.decreases-loop-e
-decreases-loop-e l = length l.block - pos
+decreases-loop-e l = length l.block - l.pos
