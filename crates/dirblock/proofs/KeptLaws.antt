@@ -32,15 +32,21 @@ pub leads_on : (o : Order) (a : List ℕ) {pos q : ℕ} {xs : List Item} (e : En
 leads_on o a e here h = over e h here
 leads_on o a e (over f g r) h = over f g (leads_on o a e r h)
 
+-- two walks from one place to one place: the places by equations, as the records of both are matched
+leads-same_at : (o : Order) (a : List ℕ) {p q p' q' : ℕ} {xs ys : List Item} → p ≡ p' → q ≡ q' → Leads o a p xs q → Leads o a p' ys q' → xs ≡ ys
+leads-same_at o a _ _ here here = refl
+leads-same_at o a i j here (over {pos = pos} f g s) = absurd (let k = sized o a pos f g in let z : ⊥ = omega (arith, k.long, leads_le o a s) in z)
+leads-same_at o a i j (over {pos = pos} e h r) here = absurd (let k = sized o a pos e h in let z : ⊥ = omega (arith, k.long, leads_le o a r) in z)
+leads-same_at o a i j (over {pos = p} e h r) (over {pos = p'} f g s) =
+    let d : Used e ≡ Used f = sym h ∙ ap (rec_at o a) i ∙ g in
+    let same : e ≡ f = cc in
+    let next : p + e.reclen ≡ p' + f.reclen = cc in
+    let rest = leads-same_at o a next j r s in
+    cc
+
 -- a walk leads to a place over one list of records only
 pub leads-same : (o : Order) (a : List ℕ) {pos q : ℕ} {xs ys : List Item} → Leads o a pos xs q → Leads o a pos ys q → xs ≡ ys
-leads-same o a here here = refl
-leads-same o a here (over {pos = pos} f g s) = absurd (let k = sized o a pos f g in let z : ⊥ = omega (arith, k.long, leads_le o a s) in z)
-leads-same o a (over {pos = pos} e h r) here = absurd (let k = sized o a pos e h in let z : ⊥ = omega (arith, k.long, leads_le o a r) in z)
-leads-same o a (over {pos = pos} {q = q} e h r) (over {xs = ys} f g s) =
-    let d : Used e ≡ Used f = sym h ∙ g in
-    let same : e ≡ f = cc in
-    ap₂ (λ (x : Entry) (l : List Item). item pos x ∷ l) same (leads-same o a r (subst (λ (x : Entry). Leads o a (pos + x.reclen) ys q) (sym same) s))
+leads-same o a r s = leads-same_at o a refl refl r s
 
 -- these records, and then that walk
 abbrev pub after_these : List Item → Walk → Walk
