@@ -15,11 +15,11 @@ loop-f-init c = (search rules, refl)
 
 pub returns-then-not-isfreefrag : goal.returns-then-not-isfreefrag
 returns-then-not-isfreefrag c =
-    sym (c.loop-f.invariant.1 ∙ first-here _ _ c.loop-f.f (omega arith) (clear-is _ _ _ ∙ ap not (sym c.isfreefrag.ensures) ∙ c.if-not-isfreefrag.true))
+    sym (c.loop-f.invariant.1 ∙ first-here _ _ c.loop-f.f (omega arith) (clear-is _ _ _ ∙ ap not (sym c.isfreefrag.ensures) ∙ ap not c.if-not-isfreefrag.true))
 
 pub loop-f-preserved : goal.loop-f-preserved
 loop-f-preserved c =
-    (omega arith, c.loop-f.invariant.1 ∙ first_next _ _ c.loop-f.f (omega arith) (clear-is _ _ _ ∙ ap not (sym c.isfreefrag.ensures) ∙ c.if-not-isfreefrag.false))
+    (omega arith, c.loop-f.invariant.1 ∙ first_next _ _ c.loop-f.f (omega arith) (clear-is _ _ _ ∙ ap not (sym c.isfreefrag.ensures) ∙ ap not c.if-not-isfreefrag.false))
 
 pub returns : goal.returns
 returns c = sym (c.loop-f.invariant.1 ∙ first-end _ _ c.loop-f.f (omega arith))
