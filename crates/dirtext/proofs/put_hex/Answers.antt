@@ -12,9 +12,6 @@ use Rattle.dirtext.proofs.put_hex.Goals as goal
 pub loop-i-init : goal.loop-i-init
 loop-i-init c = (search rules, search rules, hex-start _ _ _ _)
 
-pub glyph-requires : goal.glyph-requires
-glyph-requires c = omega (arith, c.shared_slice_known-in-loop-i-1.given (c.args.from + c.loop-i.i))
-
 pub put_byte-high-requires : goal.put_byte-high-requires
 put_byte-high-requires c = let p = hex-place _ _ _ _ _ _ _ c.loop-i.invariant.2 (omega arith) in omega (arith, p.0, p.1)
 
