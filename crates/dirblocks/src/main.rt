@@ -3,57 +3,57 @@
 #![tactic(auto)]
 
 use field::Order;
-use libc::STDOUT_FILENO;
+use std::fs;
+use std::io::{self, ErrorKind, Read};
 
-fn write_part(bytes: &[u8], from: usize, n: usize) {
+fn write_part(rt: &impl Print, bytes: &[u8], from: usize, n: usize) -> io::Result<()> {
     if from <= bytes.len() {
         if n <= bytes.len() - from {
             let to = from + n;
-            io::write_all(STDOUT_FILENO, &bytes[from..to]);
+            rt.write_all(&bytes[from..to])?;
         }
     }
+    Ok(())
 }
 
 // What dirlist prints of a part of the frame.
-fn write_listing(frame: &[u8], from: usize, n: usize) {
+fn write_listing(rt: &impl Print, frame: &[u8], from: usize, n: usize) -> io::Result<()> {
     if from <= frame.len() {
         if n <= frame.len() - from {
             let to = from + n;
             let mut out = [0u8; 4096];
             let end = dirtext::dirlist(Order::Little, &frame[from..to], &mut out);
-            write_part(&out, 0, end);
+            write_part(rt, &out, 0, end)?;
         }
     }
+    Ok(())
 }
 
 // The next frame's listing; whether there was one.
-fn list_next(fd: i32) -> bool {
+fn list_next(rt: &impl Print, file: &mut impl Read) -> io::Result<bool> {
     let mut frame = [0u8; 1059];
-    let got = io::read_full(fd, &mut frame);
-    if got < 1059 {
-        return false;
+    match file.read_exact(&mut frame) {
+        Ok(()) => {}
+        Err(e) if e.kind() == ErrorKind::UnexpectedEof => return Ok(false),
+        Err(e) => return Err(e),
     }
     let n = field::get_u16(Order::Little, &frame, 0) as usize;
     let label = field::get_u8(Order::Little, &frame, 2) as usize;
-    write_part(&frame, 3, label);
-    write_listing(&frame, 35, n);
-    true
+    write_part(rt, &frame, 3, label)?;
+    write_listing(rt, &frame, 35, n)?;
+    Ok(true)
 }
 
-fn main() {
-    let path = b"blocks";
-    let fd = os::open_read(path);
-    if fd < 0 {
-        os::fail(path);
-        return;
-    }
+fn main(rt: HostRuntime) -> io::Result<()> {
+    let path = "blocks";
+    let mut file = fs::open(&rt, path)?;
     let mut turns: usize = 1000;
     while 0 < turns {
-        if list_next(fd) {
+        if list_next(&rt, &mut file)? {
             turns -= 1;
         } else {
             turns = 0;
         }
     }
-    libc::close(fd);
+    Ok(())
 }
