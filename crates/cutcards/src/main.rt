@@ -4,9 +4,11 @@
 
 use balloc::{Freed, Given, Recounted};
 use field::Order;
-use libc::STDOUT_FILENO;
 use refusal::Refusal;
 use sound::Opened;
+use std::fs;
+use std::io::{self, Read};
+use std::rt::Files;
 use volume::{FragNum, Volume};
 
 // The superblock's fields.
@@ -110,37 +112,34 @@ fn put32(img: &mut Card, at: usize, v: u32) {
     }
 }
 
-fn load(img: &mut Card, path: &[u8]) {
-    let fd = os::open_read(path);
-    if fd < 0 {
-        os::fail(path);
-        return;
-    }
-    io::read_full(fd, img);
-    libc::close(fd);
+fn load(rt: &impl Files, img: &mut Card, path: &str) -> io::Result<()> {
+    let file = fs::open(rt, path)?;
+    io::copy(&mut file.take(331776), &mut &mut img[..])?;
+    Ok(())
 }
 
 // ---- what is printed
 
-fn say(text: &[u8]) {
-    io::write_all(STDOUT_FILENO, text);
+fn say(rt: &impl Print, text: &[u8]) -> io::Result<()> {
+    rt.write_all(text)
 }
 
-fn say_number(text: &[u8], n: u64) {
-    say(text);
-    io::print_decimal(STDOUT_FILENO, n);
+fn say_number(rt: &impl Print, text: &[u8], n: u64) -> io::Result<()> {
+    say(rt, text)?;
+    rt.print(n)
 }
 
-fn say_truth(b: bool) {
+fn say_truth(rt: &impl Print, b: bool) -> io::Result<()> {
     if b {
-        say(b" true");
+        say(rt, b" true")?;
     } else {
-        say(b" false");
+        say(rt, b" false")?;
     }
+    Ok(())
 }
 
-fn say_refusal(e: Refusal) {
-    say_number(b" refused ", refusal::number(e) as u64);
+fn say_refusal(rt: &impl Print, e: Refusal) -> io::Result<()> {
+    say_number(rt, b" refused ", refusal::number(e) as u64)
 }
 
 // ---- the calls
@@ -159,53 +158,67 @@ fn walked(w: Walk, n: u64, given: u64) -> Walk {
     }
 }
 
-fn give(img: &mut Card, vol: Volume, size: u64, w: Walk) -> Walk {
+fn give(rt: &impl Print, img: &mut Card, vol: Volume, size: u64, w: Walk) -> io::Result<Walk> {
     match balloc::blk_alloc_cut(img, vol, size, w.left) {
         Given::Block(a, got, n, v) => {
-            say_number(b" given ", a.0);
-            say_number(b" of ", got);
-            say_number(b" by ", n);
-            walked(w, n, a.0)
+            say_number(rt, b" given ", a.0)?;
+            say_number(rt, b" of ", got)?;
+            say_number(rt, b" by ", n)?;
+            Ok(walked(w, n, a.0))
         }
         Given::No(e) => {
-            say_refusal(e);
-            walked(w, 0, w.given)
+            say_refusal(rt, e)?;
+            Ok(walked(w, 0, w.given))
         }
     }
 }
 
-fn back(img: &mut Card, vol: Volume, a: u64, size: u64, w: Walk) -> Walk {
+fn back(
+    rt: &impl Print,
+    img: &mut Card,
+    vol: Volume,
+    a: u64,
+    size: u64,
+    w: Walk,
+) -> io::Result<Walk> {
     match balloc::blk_free_cut(img, vol, FragNum(a), size, w.left) {
         Freed::Made(n, v) => {
-            say_number(b" back ", a);
-            say_number(b" by ", n);
-            walked(w, n, w.given)
+            say_number(rt, b" back ", a)?;
+            say_number(rt, b" by ", n)?;
+            Ok(walked(w, n, w.given))
         }
         Freed::No(e) => {
-            say_refusal(e);
-            walked(w, 0, w.given)
+            say_refusal(rt, e)?;
+            Ok(walked(w, 0, w.given))
         }
     }
 }
 
-fn make(img: &mut Card, vol: Volume, c: Call, w: Walk) -> Walk {
+fn make(rt: &impl Print, img: &mut Card, vol: Volume, c: Call, w: Walk) -> io::Result<Walk> {
     let act = c.act;
     match act {
-        Act::Give => give(img, vol, c.size, w),
-        Act::Back => back(img, vol, c.at, c.size, w),
+        Act::Give => give(rt, img, vol, c.size, w),
+        Act::Back => back(rt, img, vol, c.at, c.size, w),
         Act::BackGiven => back(
+            rt,
             img,
             vol,
             std::num::wrapping_add_u64(w.given, c.at),
             c.size,
             w,
         ),
-        Act::Nothing => w,
+        Act::Nothing => Ok(w),
     }
 }
 
 // The calls in order, while stores are left; the first in any case.
-fn make_all(img: &mut Card, vol: Volume, calls: Calls, k: u64) -> Walk {
+fn make_all(
+    rt: &impl Print,
+    img: &mut Card,
+    vol: Volume,
+    calls: Calls,
+    k: u64,
+) -> io::Result<Walk> {
     let mut w = Walk {
         left: k,
         made: 0,
@@ -215,11 +228,11 @@ fn make_all(img: &mut Card, vol: Volume, calls: Calls, k: u64) -> Walk {
     let mut i: usize = 0;
     while i < 6 {
         if (i == 0) | (0 < w.left) {
-            w = make(img, vol, calls[i], w);
+            w = make(rt, img, vol, calls[i], w)?;
         }
         i += 1;
     }
-    w
+    Ok(w)
 }
 
 // ---- what is asked of the card
@@ -367,77 +380,87 @@ fn wrong_bytes(kept: &Card, img: &Card) -> u64 {
 
 // ---- a run and its cuts
 
-fn tell_recount(img: &mut Card, vol: Volume) {
-    say(b"; recount");
+fn tell_recount(rt: &impl Print, img: &mut Card, vol: Volume) -> io::Result<()> {
+    say(rt, b"; recount")?;
     match balloc::recount(img, vol) {
         Recounted::Totals(nbfree, nffree, v) => {
-            say_number(b" nbfree ", nbfree);
-            say_number(b" nffree ", nffree);
+            say_number(rt, b" nbfree ", nbfree)?;
+            say_number(rt, b" nffree ", nffree)?;
         }
         Recounted::No(e) => {
-            say_refusal(e);
+            say_refusal(rt, e)?;
         }
     }
+    Ok(())
 }
 
-fn tell_counts(img: &Card) {
+fn tell_counts(rt: &impl Print, img: &Card) -> io::Result<()> {
     let a = counted(img, FIRST);
     let b = counted(img, SECOND);
     let c = counted(img, LAST);
-    say(b"; counts");
-    say_truth(group_true(img, FIRST, a));
-    say_truth(group_true(img, SECOND, b));
-    say_truth(group_true(img, LAST, c));
-    say_truth(totals_true(img, a, b, c));
+    say(rt, b"; counts")?;
+    say_truth(rt, group_true(img, FIRST, a))?;
+    say_truth(rt, group_true(img, SECOND, b))?;
+    say_truth(rt, group_true(img, LAST, c))?;
+    say_truth(rt, totals_true(img, a, b, c))
 }
 
-fn tell_free(img: &Card) {
+fn tell_free(rt: &impl Print, img: &Card) -> io::Result<()> {
     let n = sum(
         free_frags(img, FIRST),
         free_frags(img, SECOND),
         free_frags(img, LAST),
     );
-    say_number(b"; free ", n);
+    say_number(rt, b"; free ", n)
 }
 
 // The run with k stores on a copy of the card, and the recount. Answers the number of stores made.
-fn cut(kept: &Card, vol: Volume, calls: Calls, k: u64) -> u64 {
+fn cut(rt: &impl Print, kept: &Card, vol: Volume, calls: Calls, k: u64) -> io::Result<u64> {
     let mut img = *kept;
-    let w = make_all(&mut img, vol, calls, k);
-    say_number(b"; in call ", less(w.calls, 1));
-    tell_recount(&mut img, vol);
-    tell_free(&img);
-    tell_counts(&img);
-    say_number(b"; other bytes ", wrong_bytes(kept, &img));
-    say(b"\n");
-    w.made
+    let w = make_all(rt, &mut img, vol, calls, k)?;
+    say_number(rt, b"; in call ", less(w.calls, 1))?;
+    tell_recount(rt, &mut img, vol)?;
+    tell_free(rt, &img)?;
+    tell_counts(rt, &img)?;
+    say_number(rt, b"; other bytes ", wrong_bytes(kept, &img))?;
+    say(rt, b"\n")?;
+    Ok(w.made)
 }
 
-fn cuts(kept: &Card, vol: Volume, name: &[u8], calls: Calls, end: u64) {
+fn cuts(
+    rt: &impl Print,
+    kept: &Card,
+    vol: Volume,
+    name: &[u8],
+    calls: Calls,
+    end: u64,
+) -> io::Result<()> {
     let mut k: u64 = 0;
     while k < end {
-        say(name);
-        say_number(b", cut ", k);
-        say(b":");
-        cut(kept, vol, calls, k);
+        say(rt, name)?;
+        say_number(rt, b", cut ", k)?;
+        say(rt, b":")?;
+        cut(rt, kept, vol, calls, k)?;
         k += 1;
     }
+    Ok(())
 }
 
 // The whole run, and then each cut of it, the last after all its stores.
-fn run(kept: &Card, name: &[u8], calls: Calls) {
-    say(name);
-    say(b":");
+fn run(rt: &impl Print, kept: &Card, name: &[u8], calls: Calls) -> io::Result<()> {
+    say(rt, name)?;
+    say(rt, b":")?;
     match sound::open(kept, true) {
         Opened::Volume(vol) => {
-            let n = cut(kept, vol, calls, u64::MAX);
-            cuts(kept, vol, name, calls, std::num::wrapping_add_u64(n, 1));
+            let n = cut(rt, kept, vol, calls, u64::MAX)?;
+            cuts(rt, kept, vol, name, calls, std::num::wrapping_add_u64(n, 1))?;
         }
         Opened::No(e) => {
-            say_refusal(e);
-            say(b"\n");
+            say_refusal(rt, e)?;
+            say(rt, b"\n")?;
         }
     }
+    Ok(())
 }
 
 // ---- the runs
@@ -485,19 +508,21 @@ fn four(a: Call, b: Call, c: Call, d: Call) -> Calls {
 }
 
 // Whole blocks, whatever part of one is asked for.
-fn blocks(card: &Card) {
-    run(card, b"give", two(gives(4096), none()));
-    run(card, b"give two", two(gives(512), gives(3584)));
+fn blocks(rt: &impl Print, card: &Card) -> io::Result<()> {
+    run(rt, card, b"give", two(gives(4096), none()))?;
+    run(rt, card, b"give two", two(gives(512), gives(3584)))?;
     run(
+        rt,
         card,
         b"give and back",
         two(gives(4096), backs_given(0, 4096)),
-    );
+    )
 }
 
 // Fragments: of a block given, which is then whole; and of the block of the card's own that has 5 in use, 176 to 180.
-fn fragments(card: &Card) {
+fn fragments(rt: &impl Print, card: &Card) -> io::Result<()> {
     run(
+        rt,
         card,
         b"back in parts",
         four(
@@ -506,8 +531,9 @@ fn fragments(card: &Card) {
             backs_given(3, 2560),
             none(),
         ),
-    );
+    )?;
     run(
+        rt,
         card,
         b"fragments",
         four(
@@ -516,12 +542,13 @@ fn fragments(card: &Card) {
             backs(180, 512),
             gives(512),
         ),
-    );
+    )
 }
 
 // Past a block, no multiple of fsize, reserved, free already; then address 0 of any size.
-fn refusals(card: &Card) {
+fn refusals(rt: &impl Print, card: &Card) -> io::Result<()> {
     run(
+        rt,
         card,
         b"refusals",
         [
@@ -532,8 +559,9 @@ fn refusals(card: &Card) {
             backs(200, 512),
             gives(4096),
         ],
-    );
+    )?;
     run(
+        rt,
         card,
         b"address 0",
         four(
@@ -542,13 +570,14 @@ fn refusals(card: &Card) {
             backs(0, 0),
             backs_given(7, 512),
         ),
-    );
+    )
 }
 
 // Groups that count no block are passed, though they have some: group 0 alone, then all, the last by a count of -1.
-fn passed(card: &mut Card) {
+fn passed(rt: &impl Print, card: &mut Card) -> io::Result<()> {
     put32(card, FIRST + NBFREE, 0);
     run(
+        rt,
         card,
         b"group 0 passed",
         four(
@@ -557,10 +586,11 @@ fn passed(card: &mut Card) {
             gives(4096),
             backs(464, 512),
         ),
-    );
+    )?;
     put32(card, SECOND + NBFREE, 0);
     put32(card, LAST + NBFREE, 4294967295);
     run(
+        rt,
         card,
         b"all passed",
         [
@@ -571,23 +601,24 @@ fn passed(card: &mut Card) {
             gives(4096),
             backs_given(0, 512),
         ],
-    );
+    )
 }
 
-fn three_groups() {
+fn three_groups(rt: &(impl Files + Print)) -> io::Result<()> {
     let mut card = [0u8; 331776];
-    load(&mut card, b"t-4k-8-3g.img");
-    blocks(&card);
-    fragments(&card);
-    refusals(&card);
-    passed(&mut card);
+    load(rt, &mut card, "t-4k-8-3g.img")?;
+    blocks(rt, &card)?;
+    fragments(rt, &card)?;
+    refusals(rt, &card)?;
+    passed(rt, &mut card)
 }
 
 // Blocks of one fragment, until there is none.
-fn one_group() {
+fn one_group(rt: &(impl Files + Print)) -> io::Result<()> {
     let mut card = [0u8; 331776];
-    load(&mut card, b"t-4k-1.img");
+    load(rt, &mut card, "t-4k-1.img")?;
     run(
+        rt,
         &card,
         b"frag 1",
         [
@@ -598,29 +629,31 @@ fn one_group() {
             backs_given(0, 4096),
             none(),
         ],
-    );
-    copy_in_map(&mut card);
+    )?;
+    copy_in_map(rt, &mut card)
 }
 
 // A rightful store makes this sound volume unsound: sblkno is cblkno, and the first byte, 0x19, of the copy's magic is the free
 // map's last, which has fragments 24 to 29.
-fn copy_in_map(card: &mut Card) {
+fn copy_in_map(rt: &impl Print, card: &mut Card) -> io::Result<()> {
     put32(card, SBLKNO, 20);
     put32(card, FIRST + FREEOFF, 1369);
     put32(card, FIRST + MAGIC, 0x19540119);
     run(
+        rt,
         card,
         b"magic in the map, back",
         two(backs(25, 4096), backs(26, 4096)),
-    );
+    )?;
     run(
+        rt,
         card,
         b"magic in the map, give",
         two(gives(4096), gives(4096)),
-    );
+    )
 }
 
-fn main() {
-    three_groups();
-    one_group();
+fn main(rt: HostRuntime) -> io::Result<()> {
+    three_groups(&rt)?;
+    one_group(&rt)
 }
