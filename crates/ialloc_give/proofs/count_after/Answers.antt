@@ -4,7 +4,7 @@ use Rattle.ialloc_give.proofs.MarkLaws.{counted-up, counted-down}
 use Rattle.ialloc_give.proofs.count_after.Goals as goal
 
 pub returns-then-freed : goal.returns-then-freed
-returns-then-freed c = c.wrapping_add_u32.ensures ∙ counted-up 4 _ c.if-freed.true
+returns-then-freed c = c.wrapping_add_u32.ensures.value ∙ counted-up 4 _ c.if-freed.true
 
 pub returns-else-freed : goal.returns-else-freed
-returns-else-freed c = c.wrapping_add_u32-else-freed.ensures ∙ counted-down 4 _ c.if-freed.false
+returns-else-freed c = c.wrapping_add_u32-else-freed.ensures.value ∙ counted-down 4 _ c.if-freed.false
