@@ -17,11 +17,6 @@ use Rattle.ialloc_free.specs.Free.{free_address}
 use Rattle.ialloc_free.proofs.FreeLaws.{addresses-good, addresses-bad, addresses-end}
 use Rattle.ialloc_free.proofs.free_addresses.Goals as goal
 
-record Going (geo : Geometry) (s : Shape) (rec start img : List ℕ) (held k : ℕ) : Type 0 where
-  pub upto : k ≤ 15
-  pub steady : Steady geo start img
-  pub same : leaves (each (free_address geo s rec) (15 - k) k held) img ≡ leaves (each (free_address geo s rec) 15 0 s.blocks) start
-
 pub loop-k-init : goal.loop-k-init
 loop-k-init c = record { upto = omega arith; steady = steady-refl _ _ c.requires.0; same = each_start _ _ 0 _ _ }
 

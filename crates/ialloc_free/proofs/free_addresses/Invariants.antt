@@ -17,6 +17,11 @@ use Rattle.ialloc_free.specs.Free.{free_address}
 use Rattle.ialloc_free.proofs.FreeLaws.{addresses-good, addresses-bad, addresses-end}
 use Rattle.ialloc_free.proofs.free_addresses.Given as goal
 
+pub record Going (geo : Geometry) (s : Shape) (rec start img : List ℕ) (held k : ℕ) : Type 0 where
+  pub upto : k ≤ 15
+  pub steady : Steady geo start img
+  pub same : leaves (each (free_address geo s rec) (15 - k) k held) img ≡ leaves (each (free_address geo s rec) 15 0 s.blocks) start
+
 abbrev pub invariant-loop-k : goal.invariant-loop-k
 invariant-loop-k l = Going l.geo l.s l.rec l.initial.img l.img l.held l.k
 
