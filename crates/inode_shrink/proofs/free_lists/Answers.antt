@@ -19,10 +19,6 @@ use Rattle.inode_shrink.specs.Shrink.{entry_in, free_lists}
 use Rattle.inode_shrink.proofs.ShrinkLaws.{lists-left, lists-good, lists-bad, lists-end, per_bytes}
 use Rattle.inode_shrink.proofs.free_lists.Goals as goal
 
-record Going (geo : Geometry) (s : Shape) (root : List ℕ) (u held : ℕ) (start img : List ℕ) (left i : ℕ) : Type 0 where
-  pub steady : Steady geo start img
-  pub same : leaves (each (λ i h. free_tree geo s 1 (entry_in geo root i) i h) (per_list geo - i) i left) img ≡ leaves (free_lists geo s (entry_in geo root) u held) start
-
 pub per_list-per-requires : goal.per_list-per-requires
 per_list-per-requires c = (units _ c.requires.0.sizes).block_top
 

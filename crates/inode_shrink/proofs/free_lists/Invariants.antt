@@ -19,6 +19,10 @@ use Rattle.inode_shrink.specs.Shrink.{entry_in, free_lists}
 use Rattle.inode_shrink.proofs.ShrinkLaws.{lists-left, lists-good, lists-bad, lists-end, per_bytes}
 use Rattle.inode_shrink.proofs.free_lists.Given as goal
 
+pub record Going (geo : Geometry) (s : Shape) (root : List ℕ) (u held : ℕ) (start img : List ℕ) (left i : ℕ) : Type 0 where
+  pub steady : Steady geo start img
+  pub same : leaves (each (λ i h. free_tree geo s 1 (entry_in geo root i) i h) (per_list geo - i) i left) img ≡ leaves (free_lists geo s (entry_in geo root) u held) start
+
 abbrev pub invariant-loop-i : goal.invariant-loop-i
 invariant-loop-i l = Going l.geo l.s l.root l.u l.held l.initial.img l.img l.left l.i
 

@@ -18,10 +18,6 @@ use Rattle.inode_shrink.specs.Shrink.{free_rest}
 use Rattle.inode_shrink.proofs.ShrinkLaws.{rest-left}
 use Rattle.inode_shrink.proofs.free_rest.Goals as goal
 
-record Going (geo : Geometry) (s : Shape) (a base u held : ℕ) (start img : List ℕ) (left i : ℕ) : Type 0 where
-  pub steady : Steady geo start img
-  pub same : leaves (each (at_entry (λ e i h. free_tree geo s 0 e (base + i) h) geo a) (per_list geo - i) i left) img ≡ leaves (free_rest geo s a base u held) start
-
 pub per_list-per-requires : goal.per_list-per-requires
 per_list-per-requires c = (units _ c.requires.0.sizes).block_top
 

@@ -18,6 +18,10 @@ use Rattle.inode_shrink.specs.Shrink.{free_rest}
 use Rattle.inode_shrink.proofs.ShrinkLaws.{rest-left}
 use Rattle.inode_shrink.proofs.free_rest.Given as goal
 
+pub record Going (geo : Geometry) (s : Shape) (a base u held : ℕ) (start img : List ℕ) (left i : ℕ) : Type 0 where
+  pub steady : Steady geo start img
+  pub same : leaves (each (at_entry (λ e i h. free_tree geo s 0 e (base + i) h) geo a) (per_list geo - i) i left) img ≡ leaves (free_rest geo s a base u held) start
+
 abbrev pub invariant-loop-i : goal.invariant-loop-i
 invariant-loop-i l = Going l.geo l.s l.a.0 l.base l.u l.held l.initial.img l.img l.left l.i
 
