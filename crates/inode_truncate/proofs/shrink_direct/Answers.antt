@@ -17,10 +17,6 @@ use Rattle.inode_truncate.specs.Truncate.{at_address, shrink_direct}
 use Rattle.inode_truncate.proofs.ZoneLaws.{direct-left, direct_good, direct-bad, direct-end}
 use Rattle.inode_truncate.proofs.shrink_direct.Goals as goal
 
-record Going (geo : Geometry) (at : ℕ) (s : Shape) (keep held : ℕ) (start img : List ℕ) (left i : ℕ) : Type 0 where
-  pub steady : Steady geo start img
-  pub same : leaves (each (λ i h. at_address geo at i (λ a. free_tree geo s 0 a i h)) (12 - i) i left) img ≡ leaves (shrink_direct geo at s keep held) start
-
 pub loop-i-init : goal.loop-i-init
 loop-i-init c = record { steady = steady-refl _ _ c.requires.0; same = direct-left _ _ _ _ _ _ }
 

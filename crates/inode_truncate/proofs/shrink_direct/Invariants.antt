@@ -17,6 +17,10 @@ use Rattle.inode_truncate.specs.Truncate.{at_address, shrink_direct}
 use Rattle.inode_truncate.proofs.ZoneLaws.{direct-left, direct_good, direct-bad, direct-end}
 use Rattle.inode_truncate.proofs.shrink_direct.Given as goal
 
+pub record Going (geo : Geometry) (at : ℕ) (s : Shape) (keep held : ℕ) (start img : List ℕ) (left i : ℕ) : Type 0 where
+  pub steady : Steady geo start img
+  pub same : leaves (each (λ i h. at_address geo at i (λ a. free_tree geo s 0 a i h)) (12 - i) i left) img ≡ leaves (shrink_direct geo at s keep held) start
+
 abbrev pub invariant-loop-i : goal.invariant-loop-i
 invariant-loop-i l = Going l.geo l.at l.s l.keep l.held l.initial.img l.img l.left l.i
 
