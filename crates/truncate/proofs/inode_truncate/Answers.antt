@@ -9,7 +9,7 @@ use Rattle.truncate.proofs.CallLaws.{call-unsound, call-read-only, call-no, call
 use Rattle.truncate.proofs.inode_truncate.Goals as goal
 
 pub returns-then-not-vol : goal.returns-then-not-vol
-returns-then-not-vol c = call-read-only _ _ _ _ _ (sym c.take_volume-t.ensures ∙ c.in-Sound.is) (c.if-not-vol.true)
+returns-then-not-vol c = call-read-only _ _ _ _ _ (sym c.take_volume-t.ensures ∙ c.in-Sound.is) (not-true _ c.if-not-vol.true)
 
 pub find_inode-requires : goal.find_inode-requires
 find_inode-requires c = taken-frame _ _ (sym c.take_volume-t.ensures ∙ c.in-Sound.is)
@@ -22,11 +22,11 @@ truncate_found-requires c =
 pub returns-in-At : goal.returns-in-At
 returns-in-At c =
     c.truncate_found.ensures
-    ∙ call-found _ _ _ _ _ (sym c.take_volume-t.ensures ∙ c.in-Sound.is) (c.if-not-vol.false) _ (found-got _ _ (sym c.in-At.is ∙ c.find_inode.ensures))
+    ∙ call-found _ _ _ _ _ (sym c.take_volume-t.ensures ∙ c.in-Sound.is) (not-false _ c.if-not-vol.false) _ (found-got _ _ (sym c.in-At.is ∙ c.find_inode.ensures))
 
 pub returns-in-No : goal.returns-in-No
 returns-in-No c =
-    call-no _ _ _ _ _ (sym c.take_volume-t.ensures ∙ c.in-Sound.is) (c.if-not-vol.false) (found_no _ _ (sym c.in-No.is ∙ c.find_inode.ensures))
+    call-no _ _ _ _ _ (sym c.take_volume-t.ensures ∙ c.in-Sound.is) (not-false _ c.if-not-vol.false) (found_no _ _ (sym c.in-No.is ∙ c.find_inode.ensures))
 
 pub returns-in-Unsound : goal.returns-in-Unsound
 returns-in-Unsound c = call-unsound _ _ _ _ (sym c.take_volume-t.ensures ∙ c.in-Unsound.is)
