@@ -9,7 +9,7 @@ use Rattle.inode_modify.proofs.ModifyLaws.{call-unsound, call-read-only, call-no
 use Rattle.inode_modify.proofs.inode_modify.Goals as goal
 
 pub returns-then-not-vol : goal.returns-then-not-vol
-returns-then-not-vol c = call-read-only _ _ _ _ _ (sym c.take_volume-t.ensures ∙ c.in-Sound.is) (c.if-not-vol.true)
+returns-then-not-vol c = call-read-only _ _ _ _ _ (sym c.take_volume-t.ensures ∙ c.in-Sound.is) (not-true _ c.if-not-vol.true)
 
 pub find_inode-requires : goal.find_inode-requires
 find_inode-requires c = taken-frame _ _ (sym c.take_volume-t.ensures ∙ c.in-Sound.is)
@@ -22,17 +22,17 @@ modify_at-requires c =
 pub returns-in-Is : goal.returns-in-Is
 returns-in-Is c =
     c.modify_at.ensures
-    ∙ call-named _ _ _ _ _ (sym c.take_volume-t.ensures ∙ c.in-Sound.is) (c.if-not-vol.false) _ (found-got _ _ (sym c.in-At.is ∙ c.find_inode.ensures)) _
+    ∙ call-named _ _ _ _ _ (sym c.take_volume-t.ensures ∙ c.in-Sound.is) (not-false _ c.if-not-vol.false) _ (found-got _ _ (sym c.in-At.is ∙ c.find_inode.ensures)) _
     (sym c.kind_of.ensures ∙ c.in-Is.is)
 
 pub returns-in-Nameless : goal.returns-in-Nameless
 returns-in-Nameless c =
-    call-nameless _ _ _ _ _ (sym c.take_volume-t.ensures ∙ c.in-Sound.is) (c.if-not-vol.false) _ (found-got _ _ (sym c.in-At.is ∙ c.find_inode.ensures))
+    call-nameless _ _ _ _ _ (sym c.take_volume-t.ensures ∙ c.in-Sound.is) (not-false _ c.if-not-vol.false) _ (found-got _ _ (sym c.in-At.is ∙ c.find_inode.ensures))
     (sym c.kind_of.ensures ∙ c.in-Nameless.is)
 
 pub returns-in-No : goal.returns-in-No
 returns-in-No c =
-    call-no _ _ _ _ _ (sym c.take_volume-t.ensures ∙ c.in-Sound.is) (c.if-not-vol.false) (found_no _ _ (sym c.in-No.is ∙ c.find_inode.ensures))
+    call-no _ _ _ _ _ (sym c.take_volume-t.ensures ∙ c.in-Sound.is) (not-false _ c.if-not-vol.false) (found_no _ _ (sym c.in-No.is ∙ c.find_inode.ensures))
 
 pub returns-in-Unsound : goal.returns-in-Unsound
 returns-in-Unsound c = call-unsound _ _ _ _ (sym c.take_volume-t.ensures ∙ c.in-Unsound.is)
