@@ -14,15 +14,8 @@ use Rattle.books.proofs.KeepLaws.{kept-left}
 use Rattle.inode_write.specs.Write.{counted_out}
 use Rattle.inode_write.proofs.WriteLaws.{Rest, rest-start, rest-next, rest-stop, rest_end}
 use Rattle.inode_write.proofs.WriteKeeps.{keeps_piece}
+use Rattle.inode_write.proofs.write_blocks.Invariants.{Going}
 use Rattle.inode_write.proofs.write_blocks.Goals as goal
-
--- in the loop: `done` bytes are written, and the blocks from i on, in the image as it is, lead to what all of them lead to at first
-record Going (geo : Geometry) (at size off : ℕ) (buf : List ℕ) (held : ℕ) (start img : List ℕ) (i from done all : ℕ) : Type 0 where
-  pub some : 0 < geo.bsize
-  pub upto : done ≤ length buf
-  pub turn : Turn geo.bsize off (length buf) i from done
-  pub steady : Steady geo start img
-  pub rest : Rest geo at size off buf some img i all start held
 
 -- what the turn writes
 piece : {geo : Geometry} {at size off : ℕ} {buf : List ℕ} {held : ℕ} {start img : List ℕ} {i from done all : ℕ} → Going geo at size off buf held start img i from done all
@@ -39,7 +32,7 @@ pub loop-done-init : goal.loop-done-init
 loop-done-init c =
     let k = c.requires in
     let b = block-some _ k.0.sizes in
-    record { nonzero_rem-from = b; upto = omega arith; turn = turn-start _ _ _ b k.3; steady = steady-refl _ _ k.0; rest = rest-start _ _ _ _ _ b _ _ }
+    record { some = b; upto = omega arith; turn = turn-start _ _ _ b k.3; steady = steady-refl _ _ k.0; rest = rest-start _ _ _ _ _ b _ _ }
 
 pub overflow_sub-geo : goal.overflow_sub-geo
 overflow_sub-geo c = omega (arith, c.loop-done.invariant.turn.inside c.loop-done-test.true)
@@ -75,7 +68,7 @@ loop-done-preserved c =
     let e = c.least-num.ensures in
     let p = piece g l _ e in
     record {
-      nonzero_rem-from = g.some;
+      some = g.some;
       upto = p.asked;
       turn = turn-next _ _ _ g.some _ _ _ g.turn l _ e;
       steady = steady-trans _ g.steady (kept-left _ (keeps_piece _ _ k.2 _ _ _ _ _ _ p.some p.within_block (omega (arith, p.reach, k.4)) p.asked _) g.steady.frame c.write_block.ensures);
