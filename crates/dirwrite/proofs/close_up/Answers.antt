@@ -13,12 +13,6 @@ use Rattle.dirwrite.proofs.WriteLaws.{Closing, close-start, close-next, close-st
 use Rattle.dirwrite.proofs.WriteKeeps.{keeps-move}
 use Rattle.dirwrite.proofs.close_up.Goals as goal
 
--- in the loop: the layout is as it was, and the blocks from q on lead to what all of them lead to at first
-record Going (geo : Geometry) (at size k : ℕ) (start img : List ℕ) (q : ℕ) : Type 0 where
-  pub behind : k < q
-  pub steady : Steady geo start img
-  pub rest : Closing geo at size k start img q
-
 pub overflow_add-q : goal.overflow_add-q
 overflow_add-q c = omega (arith, c.requires.3)
 

@@ -13,6 +13,12 @@ use Rattle.dirwrite.proofs.WriteLaws.{Closing, close-start, close-next, close-st
 use Rattle.dirwrite.proofs.WriteKeeps.{keeps-move}
 use Rattle.dirwrite.proofs.close_up.Given as goal
 
+-- in the loop: the layout is as it was, and the blocks from q on lead to what all of them lead to at first
+pub record Going (geo : Geometry) (at size k : ℕ) (start img : List ℕ) (q : ℕ) : Type 0 where
+  pub behind : k < q
+  pub steady : Steady geo start img
+  pub rest : Closing geo at size k start img q
+
 abbrev pub invariant-loop-q : goal.invariant-loop-q
 invariant-loop-q l = Going l.geo l.at l.size l.k l.initial.img l.img l.q
 

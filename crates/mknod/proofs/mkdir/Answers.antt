@@ -7,13 +7,13 @@ use Rattle.mknod.proofs.MakeLaws.{mkdir-unsound, mkdir-read-only, mkdir-taken}
 use Rattle.mknod.proofs.mkdir.Goals as goal
 
 pub returns-then-not-vol : goal.returns-then-not-vol
-returns-then-not-vol c = mkdir-read-only _ _ _ _ _ _ _ _ _ (sym c.take_volume-t.ensures ∙ c.in-Sound.is) (c.if-not-vol.true)
+returns-then-not-vol c = mkdir-read-only _ _ _ _ _ _ _ _ _ (sym c.take_volume-t.ensures ∙ c.in-Sound.is) (not-true _ c.if-not-vol.true)
 
 pub mkdir_in-requires : goal.mkdir_in-requires
 mkdir_in-requires c = taken-frame _ _ (sym c.take_volume-t.ensures ∙ c.in-Sound.is)
 
 pub returns-else-not-vol : goal.returns-else-not-vol
-returns-else-not-vol c = c.mkdir_in.ensures ∙ mkdir-taken _ _ _ _ _ _ _ _ _ (sym c.take_volume-t.ensures ∙ c.in-Sound.is) (c.if-not-vol.false) c.one_time.ensures
+returns-else-not-vol c = c.mkdir_in.ensures ∙ mkdir-taken _ _ _ _ _ _ _ _ _ (sym c.take_volume-t.ensures ∙ c.in-Sound.is) (not-false _ c.if-not-vol.false) c.one_time.ensures
 
 pub returns-in-Unsound : goal.returns-in-Unsound
 returns-in-Unsound c = mkdir-unsound _ _ _ _ _ _ _ _ (sym c.take_volume-t.ensures ∙ c.in-Unsound.is)
