@@ -1,4 +1,5 @@
 -- The laws of `specs/Encode.antt`: an attribute that was written is read back, and nothing outside it is touched. Assumes nothing.
+use Rattle.std.specs.Prelude.{Some, Ok}
 use mathlib.Core.Path.{◌≡◌, refl, sym, ◌∙◌}
 use mathlib.Core.List.{List}
 use mathlib.Core.Logic.{inl}
@@ -9,7 +10,6 @@ use Rattle.field.specs.declared.Order.{Order}
 use Rattle.field.specs.Field.{num, put, put_num, zeros, Kept}
 use Rattle.field.proofs.Laws.{length-put, length-put_num, length-zeros, num-put_num, num-put_num-before, part-put, part-put-apart, kept_trans, kept_wider, kept-put, kept-put_num, kept-num}
 use Rattle.attrrec.specs.declared.Entry.{Entry}
-use Rattle.attrrec.specs.declared.Attr.TheVariants.{Is}
 use Rattle.attrrec.specs.Record.{entry_at, name_at, gap, value_len, value_at, judged, attr_at}
 use Rattle.attrrec.specs.Encode.{attr_pad, attr_length, new_entry, put_header, put_attr}
 use Rattle.attrrec.proofs.RecordLaws.{gap-low, gap-aligned, judged-is, attr-judged}
@@ -138,7 +138,7 @@ module _ (o : Order) (b ns : ℕ) (name value area : List ℕ) where
         entry-kept o b (b + 7) _ headed (put_attr o b ns name value area) behind (omega arith)
         ∙ header_read o b (new_entry ns name value) _ (omega (arith, f.inside)) narrow
 
-    taken : judged b (length area - b) (new_entry ns name value) ≡ Is (new_entry ns name value)
+    taken : judged b (length area - b) (new_entry ns name value) ≡ Ok (Some (new_entry ns name value))
     unfolding new_entry
     taken =
         let g = gap-low 0 (length name) in
@@ -148,7 +148,7 @@ module _ (o : Order) (b ns : ℕ) (name value area : List ℕ) where
         judged-is b (length area - b) (new_entry ns name value) (omega arith) f.some f.short (omega arith) (omega arith) (omega arith) (omega arith)
 
     -- the attribute is read back
-    pub attr-written : attr_at o (put_attr o b ns name value area) b ≡ Is (new_entry ns name value)
+    pub attr-written : attr_at o (put_attr o b ns name value area) b ≡ Ok (Some (new_entry ns name value))
     attr-written =
         attr-judged o (put_attr o b ns name value area) b (length area - b) (new_entry ns name value) (rw length-attr) (sym entry-written) ∙ taken
 

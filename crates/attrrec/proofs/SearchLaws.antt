@@ -1,4 +1,5 @@
 -- The laws of `specs/Search.antt`: a search hits, passes on or stops; texts are listed one after another. Assumes nothing.
+use Rattle.std.specs.Prelude.{Option, Some, None, Result, Ok, Err}
 use mathlib.Core.Path.{◌≡◌, refl, sym, ap, ◌∙◌}
 use mathlib.Core.Bool.{Bool, true, false}
 use mathlib.Core.List.{List, [], ◌∷◌, ◌++◌, append-nil}
@@ -8,32 +9,30 @@ use lib.ListN.{length, take, drop, length-append, length-drop, take-append-drop}
 use lib.Seq.{take-append_seam, drop-append_seam, drop-drop, take-add}
 use Rattle.field.specs.declared.Order.{Order}
 use Rattle.attrrec.specs.declared.Entry.{Entry}
-use Rattle.attrrec.specs.declared.Attr.{Attr}
-use Rattle.attrrec.specs.declared.Attr.TheVariants.{Is, End, Bad}
-use Rattle.attrrec.specs.declared.Find.{Find}
-use Rattle.attrrec.specs.declared.Find.TheVariants as Find
 use Rattle.attrrec.specs.Record.{attr_at}
 use Rattle.attrrec.specs.Walk.{Item, Stop, ended, damaged, onward, walk_for, walk_from}
 use Rattle.attrrec.specs.Text.{shown_text, texts_of}
 use Rattle.attrrec.specs.Search.{pick_find, search_among, search_from, named, find_in, Texts, texts, bad, before, texts_in, list_from, list_in, all_texts}
 use Rattle.attrrec.proofs.WalkLaws.{walk_is, walk_end, walk-bad}
+use Rattle.refusal.specs.Refusal.{damage}
+use Rattle.refusal.specs.declared.Damage.{Damage}
 
 -- ---- one turn of a search
 
 module _ (p : Item → Bool) (o : Order) (area : List ℕ) (b : ℕ) where
-  pub search-hit : (e : Entry) → attr_at o area b ≡ Is e → p (record { pos = b; entry = e }) ≡ true → search_from p o area b ≡ Find.At b e
+  pub search-hit : (e : Entry) → attr_at o area b ≡ Ok (Some e) → p (record { pos = b; entry = e }) ≡ true → search_from p o area b ≡ Ok (Some (b, e))
   unfolding search_from search_among
   search-hit e h t = rw (walk_is o area b e h, t)
 
-  pub search-pass : (e : Entry) → attr_at o area b ≡ Is e → p (record { pos = b; entry = e }) ≡ false → search_from p o area b ≡ search_from p o area (b + e.len)
+  pub search-pass : (e : Entry) → attr_at o area b ≡ Ok (Some e) → p (record { pos = b; entry = e }) ≡ false → search_from p o area b ≡ search_from p o area (b + e.len)
   unfolding search_from search_among
   search-pass e h t = rw (walk_is o area b e h, t)
 
-  pub search-end : attr_at o area b ≡ End → search_from p o area b ≡ Find.Absent
+  pub search-end : attr_at o area b ≡ Ok None → search_from p o area b ≡ Ok None
   unfolding search_from search_among
   search-end h = rw (walk_end o area b h)
 
-  pub search-bad : attr_at o area b ≡ Bad → search_from p o area b ≡ Find.Bad
+  pub search-bad : attr_at o area b ≡ Err damage → search_from p o area b ≡ Err damage
   unfolding search_from search_among
   search-bad h = rw (walk-bad o area b h)
 
@@ -44,32 +43,33 @@ find_start o area name = refl
 -- ---- what is found is an attribute of the area
 
 module _ (p : Item → Bool) (o : Order) (area : List ℕ) (c : ℕ) (e : Entry) where
-  taken-for : (n b : ℕ) → search_among p (walk_for o area n b).attrs (walk_for o area n b).stopped ≡ Find.At c e → attr_at o area c ≡ Is e
+  taken-for : (n b : ℕ) → search_among p (walk_for o area n b).attrs (walk_for o area n b).stopped ≡ Ok (Some (c, e)) → attr_at o area c ≡ Ok (Some e)
   unfolding search_among walk_for
   taken-for zero b h = absurd (let z : ◌≡◌ {A = ℕ} 0 1 = cc in let y : ⊥ = omega arith in y)
   taken-for (suc n) b h = go (attr_at o area b) refl h (taken-for n)
     where
-      hit : (f : Entry) → attr_at o area b ≡ Is f → (t : Bool) → (r : Find) → (r ≡ Find.At c e → attr_at o area c ≡ Is e) → pick_find t (Find.At b f) r ≡ Find.At c e → attr_at o area c ≡ Is e
+      hit : (f : Entry) → attr_at o area b ≡ Ok (Some f) → (t : Bool) → (r : Result (Option (ℕ × Entry)) Damage) → (r ≡ Ok (Some (c, e)) → attr_at o area c ≡ Ok (Some e)) → pick_find t (Ok (Some (b, f))) r ≡ Ok (Some (c, e)) → attr_at o area c ≡ Ok (Some e)
       hit f q true r k h =
-          let u : b ≡ c = cc in
-          let v : f ≡ e = cc in
+          let w : ◌≡◌ {A = ℕ × Entry} (b, f) (c, e) = cc in
+          let u : b ≡ c = ap (λ (z : ℕ × Entry). z.0) w in
+          let v : f ≡ e = ap (λ (z : ℕ × Entry). z.1) w in
           rw (← u, ← v) q
       hit f q false r k h = k h
 
-      go : (k : Attr) → attr_at o area b ≡ k → search_among p (onward b k (walk_for o area n)).attrs (onward b k (walk_for o area n)).stopped ≡ Find.At c e
-          → ((q : ℕ) → search_among p (walk_for o area n q).attrs (walk_for o area n q).stopped ≡ Find.At c e → attr_at o area c ≡ Is e) → attr_at o area c ≡ Is e
-      go (Is f) q h r = hit f q (p (record { pos = b; entry = f })) _ (r (b + f.len)) h
-      go End q h r = absurd (let z : ◌≡◌ {A = ℕ} 0 1 = cc in let y : ⊥ = omega arith in y)
-      go Bad q h r = absurd (let z : ◌≡◌ {A = ℕ} 0 1 = cc in let y : ⊥ = omega arith in y)
+      go : (k : Result (Option Entry) Damage) → attr_at o area b ≡ k → search_among p (onward b k (walk_for o area n)).attrs (onward b k (walk_for o area n)).stopped ≡ Ok (Some (c, e))
+          → ((q : ℕ) → search_among p (walk_for o area n q).attrs (walk_for o area n q).stopped ≡ Ok (Some (c, e)) → attr_at o area c ≡ Ok (Some e)) → attr_at o area c ≡ Ok (Some e)
+      go (Ok (Some f)) q h r = hit f q (p (record { pos = b; entry = f })) _ (r (b + f.len)) h
+      go (Ok None) q h r = absurd (let z : ◌≡◌ {A = ℕ} 0 1 = cc in let y : ⊥ = omega arith in y)
+      go (Err harm) q h r = absurd (let z : ◌≡◌ {A = ℕ} 0 1 = cc in let y : ⊥ = omega arith in y)
 
-pub find-taken : (o : Order) (area name : List ℕ) (b : ℕ) (e : Entry) → find_in o area name ≡ Find.At b e → attr_at o area b ≡ Is e
+pub find-taken : (o : Order) (area name : List ℕ) (b : ℕ) (e : Entry) → find_in o area name ≡ Ok (Some (b, e)) → attr_at o area b ≡ Ok (Some e)
 unfolding find_in search_from walk_from
 find-taken o area name b e h = taken-for (named area name) o area b e (suc (length area)) 0 h
 
 -- ---- the texts listed, from b on
 
 module _ (o : Order) (area : List ℕ) (b : ℕ) where
-  pub list-is : (e : Entry) → attr_at o area b ≡ Is e → list_from o area b ≡ before (shown_text area (record { pos = b; entry = e })) (list_from o area (b + e.len))
+  pub list-is : (e : Entry) → attr_at o area b ≡ Ok (Some e) → list_from o area b ≡ before (shown_text area (record { pos = b; entry = e })) (list_from o area (b + e.len))
   unfolding list_from texts_of
   list-is e h = rw (walk_is o area b e h) (go (walk_from o area (b + e.len)).stopped)
     where
@@ -78,11 +78,11 @@ module _ (o : Order) (area : List ℕ) (b : ℕ) where
       go ended = refl
       go damaged = refl
 
-  pub list-end : attr_at o area b ≡ End → list_from o area b ≡ texts []
+  pub list-end : attr_at o area b ≡ Ok None → list_from o area b ≡ texts []
   unfolding list_from texts_of
   list-end h = rw (walk_end o area b h)
 
-  pub list-bad : attr_at o area b ≡ Bad → list_from o area b ≡ bad
+  pub list-bad : attr_at o area b ≡ Err damage → list_from o area b ≡ bad
   unfolding list_from texts_of
   list-bad h = rw (walk-bad o area b h)
 

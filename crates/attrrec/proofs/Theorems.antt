@@ -1,5 +1,6 @@
 -- What is listed is what is found, the first match wins, and what was encoded is decoded. Assumes nothing.
-use mathlib.Core.Path.{◌≡◌, refl, ◌∙◌}
+use Rattle.std.specs.Prelude.{Option, Some, Result, Ok}
+use mathlib.Core.Path.{◌≡◌, refl, ap, ◌∙◌}
 use mathlib.Core.Bool.{Bool, true, false, ◌&&◌}
 use mathlib.Core.List.{List, [], ◌∷◌}
 use Prim.Native.Nat.{ℕ, ◌^◌, ◌≤◌, ◌<◌}
@@ -11,15 +12,13 @@ use Rattle.field.proofs.Laws.{length-zeros}
 use Rattle.dirblock.specs.Search.{same_name}
 use Rattle.dirblock.proofs.SearchLaws.{same-name, name-same}
 use Rattle.attrrec.specs.declared.Entry.{Entry}
-use Rattle.attrrec.specs.declared.Attr.TheVariants.{Is}
-use Rattle.attrrec.specs.declared.Find.{Find}
-use Rattle.attrrec.specs.declared.Find.TheVariants as Find
 use Rattle.attrrec.specs.Record.{attr_at, name_at, value_at}
 use Rattle.attrrec.specs.Walk.{Item, Stop, ended, damaged, walk_from}
 use Rattle.attrrec.specs.Text.{known, item_text}
 use Rattle.attrrec.specs.Search.{pick_find, search_among, search_from, named, find_in}
 use Rattle.attrrec.specs.Encode.{attr_length, new_entry, encode}
 use Rattle.attrrec.proofs.EncodeLaws.{Fits, length-attr, attr-written, name-written, value_written}
+use Rattle.refusal.specs.declared.Damage.{Damage}
 
 -- ---- the first match wins
 
@@ -41,25 +40,26 @@ pub first-holds : {p : Item → Bool} {is : List Item} {j : Item} → First p is
 first-holds (here t) = t
 first-holds (later f r) = first-holds r
 
-abbrev place : Item → Find
-place i = Find.At i.pos i.entry
+abbrev place : Item → Result (Option (ℕ × Entry)) Damage
+place i = Ok (Some (i.pos, i.entry))
 
 pub first-found : {p : Item → Bool} {is : List Item} {j : Item} → First p is j → (s : Stop) → search_among p is s ≡ place j
 unfolding search_among
 first-found (here t) s = rw t
 first-found (later f r) s = rw f (first-found r s)
 
-pub found-first : (p : Item → Bool) (is : List Item) (s : Stop) (b : ℕ) (e : Entry) → search_among p is s ≡ Find.At b e → First p is (record { pos = b; entry = e })
+pub found-first : (p : Item → Bool) (is : List Item) (s : Stop) (b : ℕ) (e : Entry) → search_among p is s ≡ Ok (Some (b, e)) → First p is (record { pos = b; entry = e })
 unfolding search_among
 found-first p [] ended b e h = absurd (let z : ◌≡◌ {A = ℕ} 0 1 = cc in let y : ⊥ = omega arith in y)
 found-first p [] damaged b e h = absurd (let z : ◌≡◌ {A = ℕ} 0 1 = cc in let y : ⊥ = omega arith in y)
 found-first p (i ∷ is) s b e h = go (p i) refl h (found-first p is s b e)
   where
-    go : (t : Bool) → p i ≡ t → pick_find t (place i) (search_among p is s) ≡ Find.At b e → (search_among p is s ≡ Find.At b e → First p is (record { pos = b; entry = e }))
+    go : (t : Bool) → p i ≡ t → pick_find t (place i) (search_among p is s) ≡ Ok (Some (b, e)) → (search_among p is s ≡ Ok (Some (b, e)) → First p is (record { pos = b; entry = e }))
         → First p (i ∷ is) (record { pos = b; entry = e })
     go true t h r =
-        let q : i.pos ≡ b = cc in
-        let v : i.entry ≡ e = cc in
+        let w : ◌≡◌ {A = ℕ × Entry} (i.pos, i.entry) (b, e) = cc in
+        let q : i.pos ≡ b = ap (λ (z : ℕ × Entry). z.0) w in
+        let v : i.entry ≡ e = ap (λ (z : ℕ × Entry). z.1) w in
         rw (← q, ← v) (here t)
     go false t h r = later t (r h)
 
@@ -102,7 +102,7 @@ module _ (o : Order) (area : List ℕ) where
       record { listed = record { among = first-among f; known = b.0 }; text = name-same _ _ b.1; first = f }
 
   -- what is found is listed, and is the first of its text
-  pub found-listed : (name : List ℕ) (b : ℕ) (e : Entry) → find_in o area name ≡ Find.At b e → Answer name (record { pos = b; entry = e })
+  pub found-listed : (name : List ℕ) (b : ℕ) (e : Entry) → find_in o area name ≡ Ok (Some (b, e)) → Answer name (record { pos = b; entry = e })
   unfolding find_in search_from
   found-listed name b e h = answer name _ (found-first (named area name) (walk_from o area 0).attrs (walk_from o area 0).stopped b e h)
 
@@ -110,7 +110,7 @@ module _ (o : Order) (area : List ℕ) where
   pub record Finds (name : List ℕ) : Type 0 where
     pub item : Item
     pub answer : Answer name item
-    pub found : find_in o area name ≡ Find.At item.pos item.entry
+    pub found : find_in o area name ≡ Ok (Some (item.pos, item.entry))
 
   pub listed_found : (i : Item) → Listed o area i → Finds (item_text area i)
   unfolding find_in search_from named
@@ -122,7 +122,7 @@ module _ (o : Order) (area : List ℕ) where
 -- ---- encode, then decode
 
 pub record Decoded (o : Order) (ns : ℕ) (name value area : List ℕ) : Type 0 where
-  pub attr : attr_at o area 0 ≡ Is (new_entry ns name value)
+  pub attr : attr_at o area 0 ≡ Ok (Some (new_entry ns name value))
   pub named : name_at area 0 (new_entry ns name value) ≡ name
   pub valued : value_at area 0 (new_entry ns name value) ≡ value
   pub whole : length area ≡ attr_length (length name) (length value)

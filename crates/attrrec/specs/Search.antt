@@ -1,30 +1,31 @@
 -- The first attribute of an area that has a text, and the list of all texts. Assumes nothing: these are definitions.
-use Rattle.std.specs.Prelude.{Bool, true, false, ◌&&◌, List, [], ◌∷◌, ◌++◌, ℕ}
+use Rattle.std.specs.Prelude.{Bool, true, false, ◌&&◌, List, [], ◌∷◌, ◌++◌, ℕ, Option, Some, None, Result, Ok, Err}
 use Rattle.field.specs.declared.Order.{Order}
 use Rattle.dirblock.specs.Search.{same_name}
-use Rattle.attrrec.specs.declared.Find.{Find}
-use Rattle.attrrec.specs.declared.Find.TheVariants as Find
 use Rattle.attrrec.specs.Walk.{Item, Stop, ended, damaged, walk_from}
 use Rattle.attrrec.specs.Text.{known, item_text, texts_of}
+use Rattle.attrrec.specs.declared.Entry.{Entry}
+use Rattle.refusal.specs.Refusal.{damage}
+use Rattle.refusal.specs.declared.Damage.{Damage}
 
-abbrev pub pick_find : Bool → Find → Find → Find
+abbrev pub pick_find : Bool → Result (Option (ℕ × Entry)) Damage → Result (Option (ℕ × Entry)) Damage → Result (Option (ℕ × Entry)) Damage
 pick_find true a b = a
 pick_find false a b = b
 
 -- the first of the attributes that p holds of; damage counts where the walk would meet it
-unfoldable pub search_among : (Item → Bool) → List Item → Stop → Find
-search_among p [] ended = Find.Absent
-search_among p [] damaged = Find.Bad
-search_among p (i ∷ is) s = pick_find (p i) (Find.At i.pos i.entry) (search_among p is s)
+unfoldable pub search_among : (Item → Bool) → List Item → Stop → Result (Option (ℕ × Entry)) Damage
+search_among p [] ended = Ok None
+search_among p [] damaged = Err damage
+search_among p (i ∷ is) s = pick_find (p i) (Ok (Some (i.pos, i.entry))) (search_among p is s)
 
-unfoldable pub search_from : (Item → Bool) → Order → List ℕ → ℕ → Find
+unfoldable pub search_from : (Item → Bool) → Order → List ℕ → ℕ → Result (Option (ℕ × Entry)) Damage
 search_from p o area b = search_among p (walk_from o area b).attrs (walk_from o area b).stopped
 
 -- "An attribute name asked for is only compared"
 unfoldable pub named : List ℕ → List ℕ → Item → Bool
 named area name i = known i.entry.namespace && same_name (item_text area i) name
 
-unfoldable pub find_in : Order → List ℕ → List ℕ → Find
+unfoldable pub find_in : Order → List ℕ → List ℕ → Result (Option (ℕ × Entry)) Damage
 find_in o area name = search_from (named area name) o area 0
 
 -- what xattr_list writes; nothing where damage is met

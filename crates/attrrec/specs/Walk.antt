@@ -1,10 +1,10 @@
 -- 01: the walk of an attribute area: its attributes in order, and how the walk stopped. Assumes nothing: these are definitions.
-use Rattle.std.specs.Prelude.{List, [], ◌∷◌, ℕ, zero, suc, ◌+◌, length}
+use Rattle.std.specs.Prelude.{List, [], ◌∷◌, ℕ, zero, suc, ◌+◌, length, Option, Some, None, Result, Ok, Err}
 use Rattle.field.specs.declared.Order.{Order}
 use Rattle.attrrec.specs.declared.Entry.{Entry}
-use Rattle.attrrec.specs.declared.Attr.{Attr}
-use Rattle.attrrec.specs.declared.Attr.TheVariants.{Is, End, Bad}
 use Rattle.attrrec.specs.Record.{attr_at}
+use Rattle.refusal.specs.Refusal.{damage}
+use Rattle.refusal.specs.declared.Damage.{Damage}
 
 -- an attribute and its place
 pub record Item : Type 0 where
@@ -27,10 +27,10 @@ abbrev pub ahead : Item → Walk → Walk
 ahead i w = record { attrs = i ∷ w.attrs; stopped = w.stopped }
 
 -- the walk at b, by what stands there
-abbrev pub onward : ℕ → Attr → (ℕ → Walk) → Walk
-onward b (Is e) next = ahead (record { pos = b; entry = e }) (next (b + e.len))
-onward b End next = halt ended
-onward b Bad next = halt damaged
+abbrev pub onward : ℕ → Result (Option Entry) Damage → (ℕ → Walk) → Walk
+onward b (Ok (Some e)) next = ahead (record { pos = b; entry = e }) (next (b + e.len))
+onward b (Ok None) next = halt ended
+onward b (Err harm) next = halt damaged
 
 -- at most n turns of the walk
 unfoldable pub walk_for : Order → List ℕ → ℕ → ℕ → Walk

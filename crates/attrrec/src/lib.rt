@@ -7,7 +7,8 @@ ghost use Rattle.field.specs.Field.{put};
 ghost use Rattle.attrrec.specs.Record.{entry_at, gap, judged, attr_at};
 ghost use Rattle.attrrec.specs.Text.{known, prefix, text_of, shown_len};
 
-use field::Order;
+use field::{Number, Order};
+use refusal::Damage;
 
 // data.rs: ExtattrHeader, struct extattr without its name.
 #[derive(Clone, Copy)]
@@ -18,32 +19,16 @@ pub struct Entry {
     pub namelen: u8,
 }
 
-// What stands at a place of an area: an attribute, the end of the walk, damage.
-#[derive(Clone, Copy)]
-pub enum Attr {
-    Is(Entry),
-    End,
-    Bad,
-}
-
-// An attribute that a search found, and its place.
-#[derive(Clone, Copy)]
-pub enum Find {
-    At(usize, Entry),
-    Absent,
-    Bad,
-}
-
 // decode::<ExtattrHeader>: the fields.
 pub fn entry_at(o: Order, s: &[u8], at: usize) -> Entry
     requires { at + 7 ≤ length s.now }
     ensures { result ≡ entry_at o at s.now }
 {
     Entry {
-        len: field::get_u32(o, s, at),
-        namespace: field::get_u8(o, s, at + 4),
-        pad: field::get_u8(o, s, at + 5),
-        namelen: field::get_u8(o, s, at + 6),
+        len: u32::get(o, s, at),
+        namespace: u8::get(o, s, at + 4),
+        pad: u8::get(o, s, at + 5),
+        namelen: u8::get(o, s, at + 6),
     }
 }
 
@@ -56,49 +41,49 @@ pub fn gap_of(b: usize, n: u8) -> usize
 }
 
 // iter_xattr: the tests, with `left` bytes of the area from b on.
-pub fn judge(b: usize, left: usize, e: Entry) -> Attr
+pub fn judge(b: usize, left: usize, e: Entry) -> Result<Option<Entry>, Damage>
     ensures { result ≡ judged b left e }
 {
     if left < 7 {
-        return Attr::End;
+        return Ok(None);
     }
     if e.namelen == 0 {
-        return Attr::End;
+        return Ok(None);
     }
     if 64 < e.namelen {
-        return Attr::End;
+        return Ok(None);
     }
     if left < 7 + e.namelen as usize {
-        return Attr::Bad;
+        return Err(Damage);
     }
     let skip = gap_of(b, e.namelen);
     let len = e.len as usize;
     if len < skip {
-        return Attr::Bad;
+        return Err(Damage);
     }
     if left < len {
-        return Attr::Bad;
+        return Err(Damage);
     }
     if len - skip < e.pad as usize {
-        return Attr::Bad;
+        return Err(Damage);
     }
-    Attr::Is(e)
+    Ok(Some(e))
 }
 
 // The bytes of n from b on.
 pub fn left_of(n: usize, b: usize) -> usize
     ensures { result ≡ n - b }
 {
-    if b < n { n - b } else { 0 }
+    n.saturating_sub(b)
 }
 
 // What stands at b of an area of any length.
-pub fn attr_at(o: Order, area: &[u8], b: usize) -> Attr
+pub fn attr_at(o: Order, area: &[u8], b: usize) -> Result<Option<Entry>, Damage>
     ensures { result ≡ attr_at o area.now b }
 {
     let left = left_of(area.len(), b);
     if left < 7 {
-        return Attr::End;
+        return Ok(None);
     }
     judge(b, left, entry_at(o, area, b))
 }

@@ -1,5 +1,5 @@
 -- 01, "Giving out and taking back blocks": the public calls, with the order of refusals before the work. Assumes nothing: these are definitions.
-use Rattle.std.specs.Prelude.{Bool, true, false, List, ℕ, min}
+use Rattle.std.specs.Prelude.{Bool, true, false, List, ℕ, min, Result, Ok, Err}
 use Rattle.refusal.specs.declared.Refusal.{Refusal}
 use Rattle.refusal.specs.declared.Refusal.TheVariants.{Damaged, ReadOnly, Invalid}
 use Rattle.store.specs.Act.{Out, got, refused, Act, refuse, choose, leaves, made, cut_act}
@@ -7,24 +7,18 @@ use Rattle.volume.specs.declared.Geometry.{Geometry}
 use Rattle.volume.specs.declared.Volume.{Volume}
 use Rattle.volume.specs.declared.FragNum.{FragNum}
 use Rattle.volume.specs.Volume.{geometry_of}
-use Rattle.sound.specs.declared.Taken.{Taken}
-use Rattle.sound.specs.declared.Taken.TheVariants.{Sound, Unsound}
 use Rattle.sound.specs.Test.{taken_of}
 use Rattle.balloc_give.specs.Give.{give_block}
 use Rattle.balloc_take.specs.Take.{good_size, take_back}
 use Rattle.balloc_count.specs.declared.Fresh.{Fresh}
 use Rattle.balloc_count.specs.Recount.{recount_all}
-use Rattle.balloc.specs.declared.Given.{Given}
-use Rattle.balloc.specs.declared.Given.TheVariants as Given
-use Rattle.balloc.specs.declared.Freed.{Freed}
-use Rattle.balloc.specs.declared.Freed.TheVariants as Freed
-use Rattle.balloc.specs.declared.Recounted.{Recounted}
-use Rattle.balloc.specs.declared.Recounted.TheVariants as Recounted
+use Rattle.refusal.specs.Refusal.{damage}
+use Rattle.refusal.specs.declared.Damage.{Damage}
 
 -- "Order: 97 for an unsound volume, 30, .."
-abbrev pub entering : {A : Type 0} → Volume → (Geometry → Act A) → Taken → Act A
-entering vol f Unsound = refuse Damaged
-entering vol f (Sound geo) = choose vol.writable (f geo) (refuse ReadOnly)
+abbrev pub entering : {A : Type 0} → Volume → (Geometry → Act A) → Result Geometry Damage → Act A
+entering vol f (Err harm) = refuse Damaged
+entering vol f (Ok geo) = choose vol.writable (f geo) (refuse ReadOnly)
 
 unfoldable pub writing : {A : Type 0} → Volume → (Geometry → Act A) → Act A
 writing vol f img = entering vol f (taken_of img) img
@@ -42,17 +36,17 @@ recount vol = writing vol recount_all
 -- ---- the answers
 
 -- "yet returns a whole block and bsize", and the number of stores made
-abbrev pub given_of : Volume → ℕ → Out ℕ → ℕ → Given
-given_of vol bsize (got a) n = Given.Block (record { 0 = a }) bsize n vol
-given_of vol bsize (refused e) n = Given.No e
+abbrev pub given_of : Volume → ℕ → Out ℕ → ℕ → Result (FragNum × ℕ × ℕ × Volume) Refusal
+given_of vol bsize (got a) n = Ok (record { 0 = a }, bsize, n, vol)
+given_of vol bsize (refused e) n = Err e
 
-abbrev pub freed_of : Volume → Out (Unit {0}) → ℕ → Freed
-freed_of vol (got x) n = Freed.Made n vol
-freed_of vol (refused e) n = Freed.No e
+abbrev pub freed_of : Volume → Out (Unit {0}) → ℕ → Result (ℕ × Volume) Refusal
+freed_of vol (got x) n = Ok (n, vol)
+freed_of vol (refused e) n = Err e
 
-abbrev pub recounted_of : Volume → Out Fresh → ℕ → Recounted
-recounted_of vol (got t) n = Recounted.Totals t.nbfree t.nffree vol
-recounted_of vol (refused e) n = Recounted.No e
+abbrev pub recounted_of : Volume → Out Fresh → ℕ → Result (ℕ × ℕ × Volume) Refusal
+recounted_of vol (got t) n = Ok (t.nbfree, t.nffree, vol)
+recounted_of vol (refused e) n = Err e
 
 -- ---- what the calls leave
 
@@ -64,17 +58,17 @@ cut_answer f k m img = (cut_act k m img, f (m img).out (min k (made m img)))
 abbrev pub plain_answer : {A B : Type 0} → (Out A → ℕ → B) → Act A → List ℕ → List ℕ × B
 plain_answer f m img = ((leaves m img).0, f (m img).out (made m img))
 
-unfoldable pub alloc_cut : Volume → ℕ → ℕ → List ℕ → List ℕ × Given
+unfoldable pub alloc_cut : Volume → ℕ → ℕ → List ℕ → List ℕ × Result (FragNum × ℕ × ℕ × Volume) Refusal
 alloc_cut vol size k img = cut_answer (given_of vol (geometry_of img).bsize) k (blk_alloc vol size) img
 
-unfoldable pub free_cut : Volume → ℕ → ℕ → ℕ → List ℕ → List ℕ × Freed
+unfoldable pub free_cut : Volume → ℕ → ℕ → ℕ → List ℕ → List ℕ × Result (ℕ × Volume) Refusal
 free_cut vol a size k img = cut_answer (freed_of vol) k (blk_free vol a size) img
 
-unfoldable pub alloc_plain : Volume → ℕ → List ℕ → List ℕ × Given
+unfoldable pub alloc_plain : Volume → ℕ → List ℕ → List ℕ × Result (FragNum × ℕ × ℕ × Volume) Refusal
 alloc_plain vol size img = plain_answer (given_of vol (geometry_of img).bsize) (blk_alloc vol size) img
 
-unfoldable pub free_plain : Volume → ℕ → ℕ → List ℕ → List ℕ × Freed
+unfoldable pub free_plain : Volume → ℕ → ℕ → List ℕ → List ℕ × Result (ℕ × Volume) Refusal
 free_plain vol a size img = plain_answer (freed_of vol) (blk_free vol a size) img
 
-unfoldable pub recount_plain : Volume → List ℕ → List ℕ × Recounted
+unfoldable pub recount_plain : Volume → List ℕ → List ℕ × Result (ℕ × ℕ × Volume) Refusal
 recount_plain vol img = plain_answer (recounted_of vol) (recount vol) img

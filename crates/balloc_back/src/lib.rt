@@ -10,7 +10,7 @@ ghost use Rattle.frame.specs.Writes.{map_write, count_write, total_write};
 ghost use Rattle.balloc_take.specs.Take.{block_stores, frag_maps, count_stores, frag_stores, take_back, took_out, took_made};
 ghost use Rattle.balloc_take.specs.Run.{BackRun};
 
-use balloc_take::{Judged, Took};
+use refusal::Refusal;
 use volume::{Count, Counts, FragNum, Geometry, Totals};
 
 // Two totals stored together, if they are to be.
@@ -31,20 +31,6 @@ fn put_counts_if(img: &mut [u8], go: bool, geo: Geometry, g: u32, c: Counts)
     frame::put_count_if(img, go, geo, g, Count::Nbfree, c.nbfree);
 }
 
-// What is left of k after n stores.
-fn left_of(k: u64, n: u64) -> u64
-    ensures { result ≡ k - n }
-{
-    if k < n { 0 } else { k - n }
-}
-
-// The number of stores made, of n.
-fn at_most(k: u64, n: u64) -> u64
-    ensures { result ≡ min k n }
-{
-    if k < n { k } else { n }
-}
-
 // The map byte of a run stored with the run's bits made 1, if it is to be.
 fn put_map_if(img: &mut [u8], go: bool, geo: Geometry, g: u32, f: u32, n: u32)
     requires { BackRun geo img.old g f n }
@@ -53,7 +39,7 @@ fn put_map_if(img: &mut [u8], go: bool, geo: Geometry, g: u32, f: u32, n: u32)
     let o = geo.order;
     let at = balloc_take::map_at(img, geo, g, f);
     let byte = bits::put_bits(img[at], (f % 8) as usize, n as usize, true);
-    store::put_u8_if(img, go, o, at, byte);
+    store::put_if(img, go, o, at, byte);
 }
 
 // A block taken back: map byte; total nbfree; group nbfree.
@@ -81,7 +67,7 @@ fn store_block(img: &mut [u8], geo: Geometry, g: u32, f: u32, k: u64) -> u64
         Count::Nbfree,
         std::num::wrapping_add_u32(c.nbfree, 1),
     );
-    at_most(k, 3)
+    k.min(3)
 }
 
 // The n map stores of a run, lowest fragment first.
@@ -92,12 +78,10 @@ fn store_maps(img: &mut [u8], geo: Geometry, g: u32, f: u32, n: u32, k: u64)
     let at = balloc_take::map_at(img, geo, g, f);
     let x = img[at];
     let s = (f % 8) as usize;
-    let mut i: u32 = 0;
-    while i < n {
+    for i in 0..n {
         let o = geo.order;
         let byte = bits::put_bits(x, s, i as usize + 1, true);
-        store::put_u8_if(img, (i as u64) < k, o, at, byte);
-        i += 1;
+        store::put_if(img, (i as u64) < k, o, at, byte);
     }
 }
 
@@ -162,29 +146,31 @@ fn store_frags(img: &mut [u8], geo: Geometry, g: u32, f: u32, n: u32, k: u64) ->
     let t = volume::read_totals(img, o);
     store_maps(img, geo, g, f, n, k);
     let made = n as u64;
-    let tail = store_counts(img, geo, g, n, c, t, whole, left_of(k, made));
-    at_most(k, made + tail)
+    let tail = store_counts(img, geo, g, n, c, t, whole, k.saturating_sub(made));
+    k.min(made + tail)
 }
 
-// balloc.rs: blk_free, for calls that have judged the volume. Address 0 is nothing to take back.
-pub fn blk_take(img: &mut [u8], geo: Geometry, a: FragNum, size: u64, k: u64) -> Took
+// balloc.rs: blk_free, for calls that have judged the volume: the number of stores made. Address 0 is nothing to take back.
+pub fn blk_take(
+    img: &mut [u8],
+    geo: Geometry,
+    a: FragNum,
+    size: u64,
+    k: u64,
+) -> Result<u64, Refusal>
     requires { Frame geo img.old }
     ensures { (img.new, took_out result, took_made result) ≡ cut_leaves k (take_back geo a.0 size) img.old }
 {
     if a.0 == 0 {
-        return Took::Made(0);
+        return Ok(0);
     }
-    match balloc_take::take_test(img, geo, a, size) {
-        Judged::Good => {
-            let g = balloc_take::dtog(geo, a);
-            let f = balloc_take::dtogd(geo, a);
-            let n = balloc_take::numfrags(geo, size);
-            if n == geo.frag {
-                Took::Made(store_block(img, geo, g, f, k))
-            } else {
-                Took::Made(store_frags(img, geo, g, f, n, k))
-            }
-        }
-        Judged::Bad(e) => Took::No(e),
+    balloc_take::take_test(img, geo, a, size)?;
+    let g = balloc_take::dtog(geo, a);
+    let f = balloc_take::dtogd(geo, a);
+    let n = balloc_take::numfrags(geo, size);
+    if n == geo.frag {
+        Ok(store_block(img, geo, g, f, k))
+    } else {
+        Ok(store_frags(img, geo, g, f, n, k))
     }
 }

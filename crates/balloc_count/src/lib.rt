@@ -52,12 +52,10 @@ pub fn recount_all(img: &mut [u8], geo: Geometry) -> Fresh
 {
     let mut nbfree: u64 = 0;
     let mut nffree: u64 = 0;
-    let mut g: u32 = 0;
-    while g < geo.ncg {
+    for g in 0..geo.ncg {
         let fresh = recount_group(img, geo, g);
         nbfree += fresh.nbfree;
         nffree += fresh.nffree;
-        g += 1;
     }
     let o = geo.order;
     volume::put_total(img, o, Count::Nbfree, nbfree);

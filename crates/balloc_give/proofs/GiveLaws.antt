@@ -1,4 +1,5 @@
 -- The laws of `specs/Give.antt`: where a block stands, how the choice goes on, and the frame at every cut of giving. Assumes nothing.
+use Rattle.std.specs.Prelude.{Option, Some, None}
 use Rattle.std.proofs.Common.{◌≡◌, ℕ, zero, suc, ◌+◌, ◌-◌, ◌*◌, ◌/◌, ◌%◌, ◌<◌, ◌≤◌, min, Bool, true, false, ◌&&◌, ltb, leb, ◌⊎◌, List, [], ◌∷◌, length, get_or, sym, refl, ap, ◌∙◌, subst, inl, inr, ⊎_elim, mul_comm, div-le_self, div-mul-le_self, arith}
 use native.Mathlib.Nat.{sub-zero, min-zero}
 use native.Mathlib.Decide.{dec_lt}
@@ -12,8 +13,6 @@ use Rattle.volume.specs.declared.Geometry.{Geometry}
 use Rattle.volume.specs.declared.Count.TheVariants.{Nbfree}
 use Rattle.volume.specs.Volume.{byte_at, cg_at, count_at, total_at}
 use Rattle.volume.proofs.Laws.{byte_at-mono, byte_at-add}
-use Rattle.bits.specs.declared.Found.{Found}
-use Rattle.bits.specs.declared.Found.TheVariants.{At, Nothing}
 use Rattle.bits.specs.Upto.{as_bit}
 use Rattle.bits.specs.Bits.{is_frag, first_free, block_free, put_bits}
 use Rattle.bits.proofs.BitsLaws.{frag-some, frag-most, block_in_byte, block-ends}
@@ -27,8 +26,6 @@ use Rattle.frame.specs.Writes.{map_write, count_write, total_write, down}
 use Rattle.frame.proofs.Places.{spots}
 use Rattle.frame.proofs.WriteLaws.{frame_if, count-frame, clear-write-frame, map-write-number}
 use Rattle.balloc_give.specs.declared.Giving.{Giving}
-use Rattle.balloc_give.specs.declared.Chosen.{Chosen}
-use Rattle.balloc_give.specs.declared.Chosen.TheVariants as Chosen
 use Rattle.balloc_give.specs.Give.{Values, positive, blocks_in, in_group, or_else, choose_from, chosen, block_address, give_stores, giving, give_block, give_zeroed, zero_write}
 
 -- ---- where a block stands
@@ -51,7 +48,7 @@ module _ (geo : Geometry) (img : List ℕ) (fr : Frame geo img) where
 -- ---- the choice
 
 module _ (geo : Geometry) (img : List ℕ) where
-  pub passed : (g : ℕ) → positive (count_at geo.order Nbfree (cg_at geo g) img) ≡ false → in_group geo img g ≡ Nothing
+  pub passed : (g : ℕ) → positive (count_at geo.order Nbfree (cg_at geo g) img) ≡ false → in_group geo img g ≡ None
   unfolding in_group
   passed g h = rw h
 
@@ -63,15 +60,15 @@ module _ (geo : Geometry) (img : List ℕ) where
   unfolding chosen
   choose-start = rw (sub-zero geo.ncg)
 
-  pub choose-hit : (g n h : ℕ) → g < n → in_group geo img g ≡ At h → choose_from geo img g (n - g) ≡ Chosen.Block g h
+  pub choose-hit : (g n h : ℕ) → g < n → in_group geo img g ≡ Some h → choose_from geo img g (n - g) ≡ Some (g, h)
   unfolding choose_from
   choose-hit g n h l e = let q : n - g ≡ suc (n - (g + 1)) = omega arith in rw (q, e)
 
-  pub choose-miss : (g n : ℕ) → g < n → in_group geo img g ≡ Nothing → choose_from geo img g (n - g) ≡ choose_from geo img (g + 1) (n - (g + 1))
+  pub choose-miss : (g n : ℕ) → g < n → in_group geo img g ≡ None → choose_from geo img g (n - g) ≡ choose_from geo img (g + 1) (n - (g + 1))
   unfolding choose_from
   choose-miss g n l e = let q : n - g ≡ suc (n - (g + 1)) = omega arith in rw (q, e)
 
-  pub choose-end : (g n : ℕ) → n ≤ g → choose_from geo img g (n - g) ≡ Chosen.Nothing
+  pub choose-end : (g n : ℕ) → n ≤ g → choose_from geo img g (n - g) ≡ None
   unfolding choose_from
   choose-end g n l = let q : n - g ≡ 0 = omega arith in rw q
 
@@ -144,39 +141,40 @@ values_are geo img fr g h lg lh cg o at m n t qc qo qa qm qn qt r ep eb lt ec et
 pub record Found-in (geo : Geometry) (img : List ℕ) (from m g h : ℕ) : Type 0 where
   pub first : from ≤ g
   pub last : g < from + m
-  pub here : in_group geo img g ≡ At h
-  pub before : (x : ℕ) → from ≤ x → x < g → in_group geo img x ≡ Nothing
+  pub here : in_group geo img g ≡ Some h
+  pub before : (x : ℕ) → from ≤ x → x < g → in_group geo img x ≡ None
 
-pub choose-found : (geo : Geometry) (img : List ℕ) (from m g h : ℕ) → choose_from geo img from m ≡ Chosen.Block g h → Found-in geo img from m g h
+pub choose-found : (geo : Geometry) (img : List ℕ) (from m g h : ℕ) → choose_from geo img from m ≡ Some (g, h) → Found-in geo img from m g h
 unfolding choose_from
 choose-found geo img from zero g h e = absurd (let z : ◌≡◌ {A = ℕ} 0 1 = cc in let y : ⊥ = omega arith in y)
 choose-found geo img from (suc m) g h e = go (in_group geo img from) refl e (choose-found geo img (from + 1) m g h)
   where
-    before-too : in_group geo img from ≡ Nothing → Found-in geo img (from + 1) m g h → (y : ℕ) → from ≤ y → y < g → Dec (from < y) → in_group geo img y ≡ Nothing
+    before-too : in_group geo img from ≡ None → Found-in geo img (from + 1) m g h → (y : ℕ) → from ≤ y → y < g → Dec (from < y) → in_group geo img y ≡ None
     before-too q r y l u (yes n) = r.before y (omega arith) u
     before-too q r y l u (no n) = let s : y ≡ from = omega arith in rw s q
 
-    go : (f : Found) → in_group geo img from ≡ f → or_else from f (choose_from geo img (from + 1) m) ≡ Chosen.Block g h
-        → (choose_from geo img (from + 1) m ≡ Chosen.Block g h → Found-in geo img (from + 1) m g h) → Found-in geo img from (suc m) g h
-    go (At x) q e f =
-        let eg : from ≡ g = cc in
-        let eh : x ≡ h = cc in
+    go : (f : Option ℕ) → in_group geo img from ≡ f → or_else from f (choose_from geo img (from + 1) m) ≡ Some (g, h)
+        → (choose_from geo img (from + 1) m ≡ Some (g, h) → Found-in geo img (from + 1) m g h) → Found-in geo img from (suc m) g h
+    go (Some x) q e f =
+        let w : ◌≡◌ {A = ℕ × ℕ} (from, x) (g, h) = cc in
+        let eg : from ≡ g = ap (λ (z : ℕ × ℕ). z.0) w in
+        let eh : x ≡ h = ap (λ (z : ℕ × ℕ). z.1) w in
         record { first = omega arith; last = omega arith; here = rw (← eg, ← eh) q; before = λ y l r. absurd (let z : ⊥ = omega arith in z) }
-    go Nothing q e f =
+    go None q e f =
         let r = f e in
         record { first = omega (arith, r.first); last = omega (arith, r.last); here = r.here; before = λ y l u. before-too q r y l u (dec_lt from y) }
 
-pub choose-none : (geo : Geometry) (img : List ℕ) (from m : ℕ) → choose_from geo img from m ≡ Chosen.Nothing → (g : ℕ) → from ≤ g → g < from + m → in_group geo img g ≡ Nothing
+pub choose-none : (geo : Geometry) (img : List ℕ) (from m : ℕ) → choose_from geo img from m ≡ None → (g : ℕ) → from ≤ g → g < from + m → in_group geo img g ≡ None
 unfolding choose_from
 choose-none geo img from zero e g l u = absurd (let z : ⊥ = omega arith in z)
 choose-none geo img from (suc m) e g l u = go (in_group geo img from) refl e (choose-none geo img (from + 1) m)
   where
-    go : (f : Found) → in_group geo img from ≡ f → or_else from f (choose_from geo img (from + 1) m) ≡ Chosen.Nothing
-        → (choose_from geo img (from + 1) m ≡ Chosen.Nothing → (g : ℕ) → from + 1 ≤ g → g < from + 1 + m → in_group geo img g ≡ Nothing) → in_group geo img g ≡ Nothing
-    go (At x) q e f = absurd (let z : ◌≡◌ {A = ℕ} 0 1 = cc in let y : ⊥ = omega arith in y)
-    go Nothing q e f = at (dec_lt from g)
+    go : (f : Option ℕ) → in_group geo img from ≡ f → or_else from f (choose_from geo img (from + 1) m) ≡ None
+        → (choose_from geo img (from + 1) m ≡ None → (g : ℕ) → from + 1 ≤ g → g < from + 1 + m → in_group geo img g ≡ None) → in_group geo img g ≡ None
+    go (Some x) q e f = absurd (let z : ◌≡◌ {A = ℕ} 0 1 = cc in let y : ⊥ = omega arith in y)
+    go None q e f = at (dec_lt from g)
       where
-        at : Dec (from < g) → in_group geo img g ≡ Nothing
+        at : Dec (from < g) → in_group geo img g ≡ None
         at (yes n) = f e g (omega arith) (omega arith)
         at (no n) = let s : g ≡ from = omega arith in rw s q
 
@@ -187,9 +185,9 @@ pub record IsChosen (geo : Geometry) (img : List ℕ) (g h : ℕ) : Type 0 where
   pub counts : positive (count_at geo.order Nbfree (cg_at geo g) img) ≡ true
   pub free : block_free geo.frag img (free_at geo g img) h ≡ true
   pub lower : (x : ℕ) → x < h → block_free geo.frag img (free_at geo g img) x ≡ false
-  pub earlier : (y : ℕ) → y < g → in_group geo img y ≡ Nothing
+  pub earlier : (y : ℕ) → y < g → in_group geo img y ≡ None
 
-pub in_group-found : (geo : Geometry) (img : List ℕ) (g h : ℕ) → in_group geo img g ≡ At h
+pub in_group-found : (geo : Geometry) (img : List ℕ) (g h : ℕ) → in_group geo img g ≡ Some h
     → (positive (count_at geo.order Nbfree (cg_at geo g) img) ≡ true) × IsFirst (block_free geo.frag img (free_at geo g img)) 0 (blocks_in geo g img) h
 in_group-found geo img g h e = go (positive (count_at geo.order Nbfree (cg_at geo g) img)) refl
   where
@@ -198,7 +196,7 @@ in_group-found geo img g h e = go (positive (count_at geo.order Nbfree (cg_at ge
     go true p = (p, first-found _ 0 (blocks_in geo g img) h (sym (first-free-is geo.frag img (free_at geo g img) (blocks_in geo g img)) ∙ sym (searched geo img g p) ∙ e))
     go false p = absurd (let q = passed geo img g p in let z : ◌≡◌ {A = ℕ} 0 1 = cc in let y : ⊥ = omega arith in y)
 
-pub chosen-is : (geo : Geometry) (img : List ℕ) (g h : ℕ) → chosen geo img ≡ Chosen.Block g h → IsChosen geo img g h
+pub chosen-is : (geo : Geometry) (img : List ℕ) (g h : ℕ) → chosen geo img ≡ Some (g, h) → IsChosen geo img g h
 unfolding chosen
 chosen-is geo img g h e =
     let r = choose-found geo img 0 geo.ncg g h e in
@@ -215,14 +213,14 @@ chosen-is geo img g h e =
 
 -- ---- what the code's three stores leave
 
-pub give-leaves : (k : ℕ) (geo : Geometry) (img : List ℕ) (g h : ℕ) → chosen geo img ≡ Chosen.Block g h → (s : List ℕ) (a n : ℕ)
+pub give-leaves : (k : ℕ) (geo : Geometry) (img : List ℕ) (g h : ℕ) → chosen geo img ≡ Some (g, h) → (s : List ℕ) (a n : ℕ)
     → s ≡ cut k (give_stores geo img g h) img → a ≡ block_address geo g h → n ≡ min k 3
     → (s, got a, n) ≡ cut_leaves k (give_block geo) img
 unfolding give_block
 give-leaves k geo img g h e s a n es ea en =
     rw (cut_act_lem k (give_block geo) img, e, give_three geo img g h, es, ea, en)
 
-pub give-none : (k : ℕ) (geo : Geometry) (img : List ℕ) → chosen geo img ≡ Chosen.Nothing → ◌≡◌ {A = List ℕ × Out ℕ × ℕ} (img, refused NoSpace, 0) (cut_leaves k (give_block geo) img)
+pub give-none : (k : ℕ) (geo : Geometry) (img : List ℕ) → chosen geo img ≡ None → ◌≡◌ {A = List ℕ × Out ℕ × ℕ} (img, refused NoSpace, 0) (cut_leaves k (give_block geo) img)
 unfolding give_block
 give-none k geo img e = rw (cut_act_lem k (give_block geo) img, e, cut-none k img, min-zero k)
 
@@ -261,18 +259,18 @@ pub give-most : (geo : Geometry) (img : List ℕ) → made (give_block geo) img 
 unfolding give_block
 give-most geo img = go (chosen geo img)
   where
-    go : (c : Chosen) → length (giving geo img c).stores ≤ 3
-    go Chosen.Nothing = omega arith
-    go (Chosen.Block g h) = omega (arith, give_three geo img g h)
+    go : (c : Option (ℕ × ℕ)) → length (giving geo img c).stores ≤ 3
+    go None = omega arith
+    go (Some (g, h)) = omega (arith, give_three geo img g h)
 
 -- a block given lies in the image
 pub given-inside : (geo : Geometry) (img : List ℕ) → Frame geo img → (a : ℕ) → (give_block geo img).out ≡ got a → (a * geo.fsize + geo.bsize ≤ length img) × (length img ≤ 1073741824)
 unfolding give_block
 given-inside geo img fr a e = go (chosen geo img) refl e
   where
-    go : (c : Chosen) → chosen geo img ≡ c → (giving geo img c).out ≡ got a → (a * geo.fsize + geo.bsize ≤ length img) × (length img ≤ 1073741824)
-    go Chosen.Nothing q e = absurd (let z : ◌≡◌ {A = ℕ} 0 1 = cc in let y : ⊥ = omega arith in y)
-    go (Chosen.Block g h) q e =
+    go : (c : Option (ℕ × ℕ)) → chosen geo img ≡ c → (giving geo img c).out ≡ got a → (a * geo.fsize + geo.bsize ≤ length img) × (length img ≤ 1073741824)
+    go None q e = absurd (let z : ◌≡◌ {A = ℕ} 0 1 = cc in let y : ⊥ = omega arith in y)
+    go (Some (g, h)) q e =
         let i = chosen-is geo img g h q in
         let s = spots geo img fr g i.group in
         let p : block_address geo g h ≡ a = cc in

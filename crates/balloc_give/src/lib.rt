@@ -1,39 +1,17 @@
 // balloc.rs (blk_alloc_full): a whole block is given out.
 #![tactic(auto)]
 
-ghost use Rattle.std.specs.Prelude.{◌≡◌, ◌<◌, min};
+ghost use Rattle.std.specs.Prelude.{◌≡◌, ◌<◌};
 ghost use Rattle.store.specs.Store.{cut};
 ghost use Rattle.store.specs.Act.{cut_leaves, leaves};
 ghost use Rattle.frame.specs.Frame.{Frame};
 ghost use Rattle.balloc_give.specs.Give.{blocks_in, in_group, chosen, give_stores, give_block, gave_out, gave_made, Values, give_zeroed, zeroed_out};
 
-use bits::Found;
 use refusal::Refusal;
 use volume::{Count, FragNum, Geometry, Totals};
 
-// A group and a block of it, or none.
-#[derive(Clone, Copy)]
-pub enum Chosen {
-    Block(u32, usize),
-    Nothing,
-}
-
-// The block's address and the number of stores made, or a refusal.
-#[derive(Clone, Copy)]
-pub enum Gave {
-    Block(FragNum, u64),
-    No(Refusal),
-}
-
-// The address of a block given out and zeroed, or a refusal.
-#[derive(Clone, Copy)]
-pub enum Zeroed {
-    Block(FragNum),
-    No(Refusal),
-}
-
 // The first free block of group g, if the group counts one.
-fn blk_in_group(img: &[u8], geo: Geometry, g: u32) -> Found
+fn blk_in_group(img: &[u8], geo: Geometry, g: u32) -> Option<usize>
     requires { Frame geo img.now × (g < geo.ncg) }
     ensures { result ≡ in_group geo img.now g }
 {
@@ -44,23 +22,20 @@ fn blk_in_group(img: &[u8], geo: Geometry, g: u32) -> Found
         let nb = r.ndblk / geo.frag;
         return bits_find::first_free_block(img, at, geo.frag, nb as usize);
     }
-    Found::Nothing
+    None
 }
 
 // The first free block of the first group that counts one and has one.
-pub fn blk_choose(img: &[u8], geo: Geometry) -> Chosen
+pub fn blk_choose(img: &[u8], geo: Geometry) -> Option<(u32, usize)>
     requires { Frame geo img.now }
     ensures { result ≡ chosen geo img.now }
 {
-    let mut g = 0;
-    while g < geo.ncg {
-        let f = blk_in_group(img, geo, g);
-        if let Found::At(h) = f {
-            return Chosen::Block(g, h);
+    for g in 0..geo.ncg {
+        if let Some(h) = blk_in_group(img, geo, g) {
+            return Some((g, h));
         }
-        g += 1;
     }
-    Chosen::Nothing
+    None
 }
 
 // What giving out block h of group g stores: the map byte and its place, the group's count, the total.
@@ -103,45 +78,28 @@ fn store_give(img: &mut [u8], geo: Geometry, g: u32, h: usize, k: u64)
 {
     let v = give_values(img, geo, g, h);
     let o = geo.order;
-    store::put_u8_if(img, 0 < k, o, v.place, v.byte);
+    store::put_if(img, 0 < k, o, v.place, v.byte);
     frame::put_count_if(img, 1 < k, geo, g, Count::Nbfree, v.count);
     frame::put_total_if(img, 2 < k, geo, Count::Nbfree, v.total);
 }
 
-// The number of stores made, of n.
-fn at_most(k: u64, n: u64) -> u64
-    ensures { result ≡ min k n }
-{
-    if k < n { k } else { n }
-}
-
-// A block given out, as far as the first k stores.
-pub fn blk_alloc_full(img: &mut [u8], geo: Geometry, k: u64) -> Gave
+// A block given out, as far as the first k stores: its address, and the number of stores made.
+pub fn blk_alloc_full(img: &mut [u8], geo: Geometry, k: u64) -> Result<(FragNum, u64), Refusal>
     requires { Frame geo img.old }
     ensures { (img.new, gave_out result, gave_made result) ≡ cut_leaves k (give_block geo) img.old }
 {
-    let c = blk_choose(img, geo);
-    match c {
-        Chosen::Block(g, h) => {
-            store_give(img, geo, g, h, k);
-            let a = volume::product(g, geo.fpg) + geo.frag as usize * h;
-            Gave::Block(FragNum(a as u64), at_most(k, 3))
-        }
-        Chosen::Nothing => Gave::No(Refusal::NoSpace),
-    }
+    let (g, h) = blk_choose(img, geo).ok_or(Refusal::NoSpace)?;
+    store_give(img, geo, g, h, k);
+    let a = volume::product(g, geo.fpg) + geo.frag as usize * h;
+    Ok((FragNum(a as u64), k.min(3)))
 }
 
 // blk_alloc_full_zeroed: a block given out, and zeros stored in it.
-pub fn blk_alloc_full_zeroed(img: &mut [u8], geo: Geometry) -> Zeroed
+pub fn blk_alloc_full_zeroed(img: &mut [u8], geo: Geometry) -> Result<FragNum, Refusal>
     requires { Frame geo img.old }
     ensures { (img.new, zeroed_out result) ≡ leaves (give_zeroed geo) img.old }
 {
-    let r = blk_alloc_full(img, geo, 18446744073709551615);
-    match r {
-        Gave::Block(a, n) => {
-            field::zero_bytes(img, volume::address_at(geo, a), geo.bsize as usize);
-            Zeroed::Block(a)
-        }
-        Gave::No(e) => Zeroed::No(e),
-    }
+    let (a, _) = blk_alloc_full(img, geo, u64::MAX)?;
+    field::zero_bytes(img, volume::address_at(geo, a), geo.bsize as usize);
+    Ok(a)
 }

@@ -1,4 +1,5 @@
 -- From a sound volume no count that taking back computes leaves its type, so that the last test never refuses. Assumes nothing.
+use Rattle.std.specs.Prelude.{Result, Ok}
 use Rattle.std.proofs.Common.{◌≡◌, ℕ, ◌+◌, ◌-◌, ◌/◌, ◌%◌, ◌^◌, ◌<◌, ◌≤◌, Bool, true, false, ◌&&◌, List, nat_abs, sym, refl, ap, ◌∙◌, mod-eq_of_lt, arith, lt-ltb, le-leb}
 use native.Mathlib.Nat.{add-mod_right}
 use native.Mathlib.Decide.{dec_lt, ℕ_discrete}
@@ -20,11 +21,10 @@ use Rattle.frame.specs.Writes.{up}
 use Rattle.frame.proofs.Places.{spots, run_is}
 use Rattle.frame.proofs.SoundKept.{Bounded}
 use Rattle.frame.proofs.WriteLaws.{up-is, up-fits}
-use Rattle.balloc_take.specs.declared.Judged.{Judged}
-use Rattle.balloc_take.specs.declared.Judged.TheVariants.{Good}
 use Rattle.balloc_take.specs.Take.{good_size, in_block, ask, take_test, group_count, total, rises, falls, whole_then, counts_fit}
 use Rattle.balloc_take.specs.Run.{BackRun}
 use Rattle.balloc_take.proofs.TestLaws.{run-frag, rises-high, rises-low, falls-low, falls-high, fits-block, fits_whole, fits-part, test-size, test-block, test-place, test-run, back-run}
+use Rattle.refusal.specs.declared.Refusal.{Refusal}
 
 -- ---- a signed number of w bytes within b of zero
 
@@ -115,8 +115,8 @@ bounded-fits {geo} {img} {g} {f} {n} r bytes b = go (ℕ_discrete n geo.frag) (w
 
 -- so the test is the four that 01 names
 module _ (geo : Geometry) (a size : ℕ) (img : List ℕ) (fr : Frame geo img) (bytes : Bytes img) (b : Bounded geo img) where
-  abbrev clear-or-not : Judged
-  clear-or-not = ask (bits_are 0 img (free_at geo (a / geo.fpg) img) (a % geo.fpg) (size / geo.fsize)) Damaged Good
+  abbrev clear-or-not : Result (Unit {0}) Refusal
+  clear-or-not = ask (bits_are 0 img (free_at geo (a / geo.fpg) img) (a % geo.fpg) (size / geo.fsize)) Damaged (Ok tt)
 
   placed : good_size geo size ≡ true → in_block geo a (size / geo.fsize) ≡ true → (t : Bool) → run_okb geo img a (size / geo.fsize) ≡ t
       → take_test geo a size img ≡ ask (run_okb geo img a (size / geo.fsize)) Damaged clear-or-not
@@ -133,7 +133,7 @@ module _ (geo : Geometry) (a size : ℕ) (img : List ℕ) (fr : Frame geo img) (
       (ask (in_block geo a (size / geo.fsize)) Invalid
       (ask (run_okb geo img a (size / geo.fsize)) Damaged
       (ask (bits_are 0 img (free_at geo (a / geo.fpg) img) (a % geo.fpg) (size / geo.fsize)) Damaged
-      Good)))
+      (Ok tt))))
   test-sound = sized (good_size geo size) refl
     where
       sized : (t : Bool) → good_size geo size ≡ t

@@ -1,4 +1,5 @@
 -- What every cut of taking back leaves of the maps: the first fragments' bits made 1, all else as it was but for the counts. Assumes nothing.
+use Rattle.std.specs.Prelude.{Ok}
 use Rattle.std.proofs.Common.{◌≡◌, ℕ, ◌+◌, ◌-◌, ◌/◌, ◌%◌, ◌<◌, ◌≤◌, min, Bool, true, false, ltb, ◌⊎◌, List, [], ◌∷◌, sym, refl, ◌∙◌, inl, inr, ⊎_elim, arith, lt-ltb, eq-eqb, ne_eqb}
 use native.Mathlib.Nat.{min-le_right, min-eq_right}
 use native.Mathlib.Decide.{ℕ_discrete}
@@ -21,7 +22,6 @@ use Rattle.frame.specs.Writes.{map_write, count_write, total_write}
 use Rattle.frame.proofs.Places.{spots}
 use Rattle.frame.proofs.Stores.{record_apart, fields-apart}
 use Rattle.frame.proofs.WriteLaws.{apply-map}
-use Rattle.balloc_take.specs.declared.Judged.TheVariants.{Good}
 use Rattle.balloc_take.specs.Take.{whole_then, pick, take_test, block_stores, count_stores, frag_stores, take_stores, take_back, back_by}
 use Rattle.balloc_take.specs.Run.{BackRun}
 use Rattle.balloc_take.proofs.TestLaws.{run-byte}
@@ -123,7 +123,7 @@ module _ (geo : Geometry) (n k : ℕ) where
 
 -- ---- the call: at every cut its image is the one with that many fragments back, but for the counts
 
-module _ (geo : Geometry) (a size : ℕ) (img : List ℕ) (some : a ≡ 0 → ⊥) (h : take_test geo a size img ≡ Good) where
+module _ (geo : Geometry) (a size : ℕ) (img : List ℕ) (some : a ≡ 0 → ⊥) (h : take_test geo a size img ≡ Ok tt) where
   pub take-kept : {Q : ℕ → Type 0} → CountsIn Q geo (a / geo.fpg) → (k : ℕ)
       → KeptBut Q (put_bits_at 1 img (free_at geo (a / geo.fpg) img) (a % geo.fpg) (back_by geo (size / geo.fsize) k)) (cut_act k (take_back geo a size) img)
   take-kept {Q} q k = rw (cut_act_lem k (take_back geo a size) img, back-good geo a size img some h) (go (ℕ_discrete (size / geo.fsize) geo.frag))

@@ -1,4 +1,5 @@
 -- How many stores taking back makes, at most: a block's map bytes and three of counts. Assumes nothing.
+use Rattle.std.specs.Prelude.{Result, Ok, Err}
 use Rattle.std.proofs.Common.{◌≡◌, ℕ, ◌+◌, ◌/◌, ◌%◌, ◌≤◌, Bool, true, false, List, length, refl, arith}
 use native.Mathlib.Decide.{ℕ_discrete}
 use Rattle.store.specs.Act.{made}
@@ -8,18 +9,17 @@ use Rattle.volume.specs.declared.Totals.{Totals}
 use Rattle.volume.specs.Volume.{cg_at, counts_of, totals_of}
 use Rattle.bits.proofs.BitsLaws.{frag-most}
 use Rattle.frame.specs.Frame.{Frame}
-use Rattle.balloc_take.specs.declared.Judged.{Judged}
-use Rattle.balloc_take.specs.declared.Judged.TheVariants.{Good, Bad}
 use Rattle.balloc_take.specs.Take.{whole_then, take_test, count_stores, take_stores, take_back}
 use Rattle.balloc_take.proofs.TestLaws.{good-run}
 use Rattle.balloc_take.proofs.TakeLaws.{block-length, frag-length, stores-block, stores-frags, back-zero, back-good, back-bad}
+use Rattle.refusal.specs.declared.Refusal.{Refusal}
 
 counts-most : (geo : Geometry) (g n : ℕ) (c : Counts) (t : Totals) (whole : Bool) → length (count_stores geo g n c t whole) ≤ 3
 counts-most geo g n c t false = omega arith
 counts-most geo g n c t true = omega arith
 
 module _ (geo : Geometry) (a size : ℕ) (img : List ℕ) (fr : Frame geo img) where
-  stores-most : take_test geo a size img ≡ Good → length (take_stores geo a size img) ≤ 11
+  stores-most : take_test geo a size img ≡ Ok tt → length (take_stores geo a size img) ≤ 11
   stores-most e = go (ℕ_discrete (size / geo.fsize) geo.frag)
     where
       go : Dec (size / geo.fsize ≡ geo.frag) → length (take_stores geo a size img) ≤ 11
@@ -36,7 +36,7 @@ module _ (geo : Geometry) (a size : ℕ) (img : List ℕ) (fr : Frame geo img) w
   pub take-most : made (take_back geo a size) img ≤ 11
   take-most = go (ℕ_discrete a 0) (take_test geo a size img) refl
     where
-      go : Dec (a ≡ 0) → (j : Judged) → take_test geo a size img ≡ j → made (take_back geo a size) img ≤ 11
+      go : Dec (a ≡ 0) → (j : Result (Unit {0}) Refusal) → take_test geo a size img ≡ j → made (take_back geo a size) img ≤ 11
       go (yes z) j e = rw (back-zero geo a size img z) (omega arith)
-      go (no z) Good e = rw (back-good geo a size img z e) (stores-most e)
-      go (no z) (Bad n) e = rw (back-bad geo a size img z e) (omega arith)
+      go (no z) (Ok u) e = rw (back-good geo a size img z e) (stores-most e)
+      go (no z) (Err n) e = rw (back-bad geo a size img z e) (omega arith)

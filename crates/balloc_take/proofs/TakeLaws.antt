@@ -1,4 +1,5 @@
 -- The laws of the stores of `specs/Take.antt`: how many they are, what each cut of them leaves, and that every cut keeps the frame. Assumes nothing.
+use Rattle.std.specs.Prelude.{Result, Ok, Err}
 use Rattle.std.proofs.Common.{◌≡◌, ℕ, zero, suc, ◌+◌, ◌-◌, ◌/◌, ◌%◌, ◌^◌, ◌<◌, ◌≤◌, min, Bool, true, false, ltb, List, [], ◌∷◌, ◌++◌, length, get_or, sym, refl, ap, ◌∙◌, add-one, arith, length-append, le-ltb, lt-ltb, eq-eqb, ne_eqb}
 use native.Mathlib.Nat.{min-zero, min-le_right, min-eq_left, min-eq_right}
 use native.Mathlib.Decide.{dec_lt, ℕ_discrete}
@@ -24,10 +25,6 @@ use Rattle.sound.specs.Sound.{free_at}
 use Rattle.frame.specs.Frame.{Frame}
 use Rattle.frame.specs.Writes.{map_write, count_write, total_write, up, down}
 use Rattle.frame.proofs.WriteLaws.{apply-map-over, apply_if-map, up-is, down-is, frame_if, count-frame, total-frame, bits-frame-at, map-write-frame}
-use Rattle.balloc_take.specs.declared.Judged.{Judged}
-use Rattle.balloc_take.specs.declared.Judged.TheVariants.{Good, Bad}
-use Rattle.balloc_take.specs.declared.Took.{Took}
-use Rattle.balloc_take.specs.declared.Took.TheVariants.{Made, No}
 use Rattle.balloc_take.specs.Take.{took_out, took_made, group_count, total, whole_then, take_test, block_stores, frag_maps, count_stores, frag_counts, frag_stores, take_stores, take_back}
 use Rattle.balloc_take.specs.Run.{BackRun}
 use Rattle.balloc_take.proofs.TestLaws.{good-run}
@@ -258,11 +255,11 @@ module _ (geo : Geometry) (a size : ℕ) (img : List ℕ) where
   back-zero e = rw (eq-eqb a 0 e)
 
   module _ (some : a ≡ 0 → ⊥) where
-    pub back-good : take_test geo a size img ≡ Good → take_back geo a size img ≡ record { stores = take_stores geo a size img; out = got (tt {0}) }
+    pub back-good : take_test geo a size img ≡ Ok tt → take_back geo a size img ≡ record { stores = take_stores geo a size img; out = got (tt {0}) }
     unfolding take_back
     back-good e = rw (ne_eqb a 0 some, e)
 
-    pub back-bad : {n : Refusal} → take_test geo a size img ≡ Bad n → take_back geo a size img ≡ record { stores = []; out = refused n }
+    pub back-bad : {n : Refusal} → take_test geo a size img ≡ Err n → take_back geo a size img ≡ record { stores = []; out = refused n }
     unfolding take_back
     back-bad e = rw (ne_eqb a 0 some, e)
 
@@ -274,16 +271,16 @@ module _ (geo : Geometry) (a size : ℕ) (img : List ℕ) where
     pub leaves-zero : a ≡ 0 → (img, got (tt {0}), 0) ≡ cut_leaves k (take_back geo a size) img
     leaves-zero e = nothing (got (tt {0})) (back-zero e)
 
-    pub leaves-bad : (a ≡ 0 → ⊥) → {n : Refusal} → take_test geo a size img ≡ Bad n → (img, refused n, 0) ≡ cut_leaves k (take_back geo a size) img
+    pub leaves-bad : (a ≡ 0 → ⊥) → {n : Refusal} → take_test geo a size img ≡ Err n → (img, refused n, 0) ≡ cut_leaves k (take_back geo a size) img
     leaves-bad some {n} e = nothing (refused n) (back-bad some e)
 
-    pub leaves-good : {ss : List Store} {ys : List ℕ} {m : ℕ} → (a ≡ 0 → ⊥) → take_test geo a size img ≡ Good → take_stores geo a size img ≡ ss
+    pub leaves-good : {ss : List Store} {ys : List ℕ} {m : ℕ} → (a ≡ 0 → ⊥) → take_test geo a size img ≡ Ok tt → take_stores geo a size img ≡ ss
         → ys ≡ cut k ss img → m ≡ min k (length ss) → (ys, got (tt {0}), m) ≡ cut_leaves k (take_back geo a size) img
     leaves-good some e s c l = rw (cut_act_lem k (take_back geo a size) img, back-good some e, s, c, l)
 
   -- every cut keeps the frame
   module _ (fr : Frame geo img) where
-    stores-frame : (k : ℕ) → take_test geo a size img ≡ Good → Frame geo (cut k (take_stores geo a size img) img)
+    stores-frame : (k : ℕ) → take_test geo a size img ≡ Ok tt → Frame geo (cut k (take_stores geo a size img) img)
     stores-frame k e = go (ℕ_discrete (size / geo.fsize) geo.frag)
       where
         go : Dec (size / geo.fsize ≡ geo.frag) → Frame geo (cut k (take_stores geo a size img) img)
@@ -293,14 +290,14 @@ module _ (geo : Geometry) (a size : ℕ) (img : List ℕ) where
     pub take-frame : (k : ℕ) → Frame geo (cut_act k (take_back geo a size) img)
     take-frame k = rw (cut_act_lem k (take_back geo a size) img) (go (ℕ_discrete a 0) (take_test geo a size img) refl)
       where
-        go : Dec (a ≡ 0) → (j : Judged) → take_test geo a size img ≡ j → Frame geo (cut k (take_back geo a size img).stores img)
+        go : Dec (a ≡ 0) → (j : Result (Unit {0}) Refusal) → take_test geo a size img ≡ j → Frame geo (cut k (take_back geo a size img).stores img)
         go (yes z) j e = rw (back-zero z, cut-none k img) fr
-        go (no z) Good e = rw (back-good z e) (stores-frame k e)
-        go (no z) (Bad n) e = rw (back-bad z e, cut-none k img) fr
+        go (no z) (Ok u) e = rw (back-good z e) (stores-frame k e)
+        go (no z) (Err n) e = rw (back-bad z e, cut-none k img) fr
 
 -- answers that meet the promise coincide
-pub took_same : (a b : Took) → took_out a ≡ took_out b → took_made a ≡ took_made b → a ≡ b
-took_same (Made m) (Made n) e q = cc
-took_same (Made m) (No f) e q = absurd (let z : ◌≡◌ {A = ℕ} 0 1 = cc in let y : ⊥ = omega arith in y)
-took_same (No f) (Made n) e q = absurd (let z : ◌≡◌ {A = ℕ} 0 1 = cc in let y : ⊥ = omega arith in y)
-took_same (No e) (No f) p q = cc
+pub took_same : (a b : Result ℕ Refusal) → took_out a ≡ took_out b → took_made a ≡ took_made b → a ≡ b
+took_same (Ok m) (Ok n) e q = cc
+took_same (Ok m) (Err f) e q = absurd (let z : ◌≡◌ {A = ℕ} 0 1 = cc in let y : ⊥ = omega arith in y)
+took_same (Err f) (Ok n) e q = absurd (let z : ◌≡◌ {A = ℕ} 0 1 = cc in let y : ⊥ = omega arith in y)
+took_same (Err e) (Err f) p q = cc

@@ -1,4 +1,5 @@
 -- The laws of the tests of `specs/Take.antt`: sizes, runs, counts, and what a good run is. Assumes nothing.
+use Rattle.std.specs.Prelude.{Result, Ok, Err}
 use Rattle.std.proofs.Common.{◌≡◌, ℕ, zero, suc, ◌+◌, ◌-◌, ◌*◌, ◌/◌, ◌%◌, ◌^◌, ◌<◌, ◌≤◌, Bool, true, false, not, ◌&&◌, eqb, ltb, leb, List, length, get_or, sym, refl, ◌∙◌, mod-lt, mul_comm, one-mul, div-add-mod', zero-mul, arith, ltb-true, le-ltb, lt-ltb, eq-eqb, ne_eqb, eqb-true, le-leb, leb-true}
 use native.Mathlib.Nat.{div-le_of_le-mul, dvd_of_mod-eq-zero, mod-mod_of_dvd}
 use native.Mathlib.Decide.{dec_le, dec_lt}
@@ -14,8 +15,6 @@ use Rattle.sound.specs.Sound.{free_at}
 use Rattle.frame.specs.Frame.{Frame, RunOk, run_okb}
 use Rattle.frame.specs.Writes.{up}
 use Rattle.frame.proofs.Places.{spots, map-byte, run_is, run-free}
-use Rattle.balloc_take.specs.declared.Judged.{Judged}
-use Rattle.balloc_take.specs.declared.Judged.TheVariants.{Good, Bad}
 use Rattle.balloc_take.specs.Take.{good_size, in_block, group_count, total, rises, falls, whole_then, block_fits, frags_fit, whole_fits, counts_fit, ask, take_test}
 use Rattle.balloc_take.specs.Run.{BackRun}
 
@@ -168,24 +167,24 @@ module _ (geo : Geometry) (g f n : ℕ) (img : List ℕ) where
 -- ---- the whole test
 
 module _ (geo : Geometry) (a size : ℕ) (img : List ℕ) where
-  pub test-size : good_size geo size ≡ false → take_test geo a size img ≡ Bad Invalid
+  pub test-size : good_size geo size ≡ false → take_test geo a size img ≡ Err Invalid
   unfolding take_test
   test-size e = rw e
 
   module _ (s : good_size geo size ≡ true) where
-    pub test-block : in_block geo a (size / geo.fsize) ≡ false → take_test geo a size img ≡ Bad Invalid
+    pub test-block : in_block geo a (size / geo.fsize) ≡ false → take_test geo a size img ≡ Err Invalid
     unfolding take_test
     test-block e = rw (s, e)
 
     module _ (b : in_block geo a (size / geo.fsize) ≡ true) where
-      pub test-place : run_okb geo img a (size / geo.fsize) ≡ false → take_test geo a size img ≡ Bad Damaged
+      pub test-place : run_okb geo img a (size / geo.fsize) ≡ false → take_test geo a size img ≡ Err Damaged
       unfolding take_test
       test-place e = rw (s, b, e)
 
       pub test-run : run_okb geo img a (size / geo.fsize) ≡ true
           → take_test geo a size img
           ≡ ask (bits_are 0 img (free_at geo (a / geo.fpg) img) (a % geo.fpg) (size / geo.fsize)) Damaged
-          (ask (counts_fit geo (a / geo.fpg) (a % geo.fpg) (size / geo.fsize) img) Damaged Good)
+          (ask (counts_fit geo (a / geo.fpg) (a % geo.fpg) (size / geo.fsize) img) Damaged (Ok tt))
       unfolding take_test
       test-run e = rw (s, b, e)
 
@@ -223,11 +222,11 @@ pub record Passed (geo : Geometry) (a size : ℕ) (img : List ℕ) : Type 0 wher
   pub clear : bits_are 0 img (free_at geo (a / geo.fpg) img) (a % geo.fpg) (size / geo.fsize) ≡ true
   pub fits : counts_fit geo (a / geo.fpg) (a % geo.fpg) (size / geo.fsize) img ≡ true
 
-asked : (t : Bool) (e : Refusal) (j : Judged) → ask t e j ≡ Good → (t ≡ true) × (j ≡ Good)
+asked : (t : Bool) (e : Refusal) (j : Result (Unit {0}) Refusal) → ask t e j ≡ Ok tt → (t ≡ true) × (j ≡ Ok tt)
 asked true e j h = (refl, h)
 asked false e j h = absurd (let z : ◌≡◌ {A = ℕ} 0 1 = cc in let y : ⊥ = omega arith in y)
 
-module _ (geo : Geometry) (a size : ℕ) (img : List ℕ) (h : take_test geo a size img ≡ Good) where
+module _ (geo : Geometry) (a size : ℕ) (img : List ℕ) (h : take_test geo a size img ≡ Ok tt) where
   pub test_good : Passed geo a size img
   unfolding take_test
   test_good =

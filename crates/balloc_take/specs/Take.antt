@@ -1,5 +1,5 @@
 -- 01, "Giving out and taking back blocks": taking back. Assumes nothing: these are definitions.
-use Rattle.std.specs.Prelude.{ℕ, zero, suc, ◌+◌, ◌-◌, ◌/◌, ◌%◌, ◌^◌, min, Bool, true, false, not, ◌&&◌, List, [], ◌∷◌, ◌++◌, ◌==◌, nat_le, nat_lt}
+use Rattle.std.specs.Prelude.{ℕ, zero, suc, ◌+◌, ◌-◌, ◌/◌, ◌%◌, ◌^◌, min, Bool, true, false, not, ◌&&◌, List, [], ◌∷◌, ◌++◌, ◌==◌, nat_le, nat_lt, Result, Ok, Err}
 use Rattle.refusal.specs.declared.Refusal.{Refusal}
 use Rattle.refusal.specs.declared.Refusal.TheVariants.{Invalid, Damaged}
 use Rattle.store.specs.Store.{Store}
@@ -14,10 +14,6 @@ use Rattle.bits.specs.Bits.{bits_are, block_free, put_bits_at}
 use Rattle.sound.specs.Sound.{free_at}
 use Rattle.frame.specs.Frame.{run_okb}
 use Rattle.frame.specs.Writes.{map_write, count_write, total_write, up, down}
-use Rattle.balloc_take.specs.declared.Judged.{Judged}
-use Rattle.balloc_take.specs.declared.Judged.TheVariants.{Good, Bad}
-use Rattle.balloc_take.specs.declared.Took.{Took}
-use Rattle.balloc_take.specs.declared.Took.TheVariants.{Made, No}
 
 -- "a positive multiple of fsize up to bsize"
 unfoldable pub good_size : Geometry → ℕ → Bool
@@ -71,13 +67,13 @@ counts_fit geo g f n img =
     (frags_fit geo g n img && pick (whole_then geo g f n img) (whole_fits geo g n img) true)
 
 -- the first test that fails refuses
-abbrev pub ask : Bool → Refusal → Judged → Judged
+abbrev pub ask : Bool → Refusal → Result (Unit {0}) Refusal → Result (Unit {0}) Refusal
 ask true e j = j
-ask false e j = Bad e
+ask false e j = Err e
 
 -- "Otherwise the size is checked the same way (22); the run must lie inside one block (22); it must lie within ndblk and touch no reserved fragment (97);
 -- all its bits must be 0 (97)"
-unfoldable pub take_test : Geometry → ℕ → ℕ → List ℕ → Judged
+unfoldable pub take_test : Geometry → ℕ → ℕ → List ℕ → Result (Unit {0}) Refusal
 take_test geo a size img =
     let n = size / geo.fsize in
     let g = a / geo.fpg in
@@ -87,7 +83,7 @@ take_test geo a size img =
     (ask (run_okb geo img a n) Damaged
     (ask (bits_are 0 img (free_at geo g img) f n) Damaged
     (ask (counts_fit geo g f n img) Damaged
-    Good))))
+    (Ok tt)))))
 
 -- "block taken back: map byte; total nbfree; group nbfree"
 unfoldable pub block_stores : Geometry → ℕ → ℕ → List ℕ → List Store
@@ -129,9 +125,9 @@ take_stores geo a size img =
     pick (n == geo.frag) (block_stores geo (a / geo.fpg) (a % geo.fpg) img) (frag_stores geo (a / geo.fpg) (a % geo.fpg) n img)
 
 -- "giving out and taking back refuse only before their first store"
-abbrev pub taking : Judged → List Store → Run (Unit {0})
-taking Good ss = record { stores = ss; out = got (tt {0}) }
-taking (Bad e) ss = record { stores = []; out = refused e }
+abbrev pub taking : Result (Unit {0}) Refusal → List Store → Run (Unit {0})
+taking (Ok u) ss = record { stores = ss; out = got (tt {0}) }
+taking (Err e) ss = record { stores = []; out = refused e }
 
 -- "Taking back address 0, past 97 and 30, makes no store"
 unfoldable pub take_back : Geometry → ℕ → ℕ → Act (Unit {0})
@@ -142,11 +138,11 @@ unfoldable pub back_by : Geometry → ℕ → ℕ → ℕ
 back_by geo n k = pick (n == geo.frag) (pick (nat_lt 0 k) n 0) (min k n)
 
 -- the code's answer: the number of stores made, or a refusal
-abbrev pub took_out : Took → Out (Unit {0})
-took_out (Made n) = got (tt {0})
-took_out (No e) = refused e
+abbrev pub took_out : Result ℕ Refusal → Out (Unit {0})
+took_out (Ok n) = got (tt {0})
+took_out (Err e) = refused e
 
 -- "0 for address 0 or a refusal"
-abbrev pub took_made : Took → ℕ
-took_made (Made n) = n
-took_made (No e) = 0
+abbrev pub took_made : Result ℕ Refusal → ℕ
+took_made (Ok n) = n
+took_made (Err e) = 0

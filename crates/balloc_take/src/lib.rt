@@ -1,7 +1,7 @@
 // balloc.rs, blk_free: whether blocks and fragments may be taken back.
 #![tactic(auto)]
 
-ghost use Rattle.std.specs.Prelude.{◌≡◌, ◌+◌, ◌-◌, ◌/◌, ◌%◌, ◌<◌, ◌≤◌, true, false, length};
+ghost use Rattle.std.specs.Prelude.{◌≡◌, ◌+◌, ◌-◌, ◌/◌, ◌%◌, ◌<◌, ◌≤◌, true, false, length, Ok};
 ghost use Rattle.refusal.specs.declared.Refusal.TheVariants.{Damaged};
 ghost use Rattle.volume.specs.Volume.{cg_at, counts_of};
 ghost use Rattle.bits.specs.Bits.{bits_are};
@@ -14,20 +14,6 @@ use refusal::Refusal;
 use volume::{Counts, FragNum, Geometry};
 
 pub mod fits;
-
-// Whether a run may be taken back, or why not.
-#[derive(Clone, Copy)]
-pub enum Judged {
-    Good,
-    Bad(Refusal),
-}
-
-// The number of stores made, or why none is.
-#[derive(Clone, Copy)]
-pub enum Took {
-    Made(u64),
-    No(Refusal),
-}
 
 // A positive multiple of fsize up to bsize.
 pub fn good_size(geo: Geometry, size: u64) -> bool
@@ -113,17 +99,17 @@ fn counts_fit(img: &[u8], geo: Geometry, g: u32, f: u32, n: u32) -> bool
 }
 
 // Whether all bits of a run that has its place are 0, and the counts have room.
-fn run_test(img: &[u8], geo: Geometry, g: u32, f: u32, n: u32) -> Judged
+fn run_test(img: &[u8], geo: Geometry, g: u32, f: u32, n: u32) -> Result<(), Refusal>
     requires { BackRun geo img.now g f n }
-    ensures { result ≡ ask (bits_are 0 img.now (free_at geo g img.now) f n) Damaged (ask (counts_fit geo g f n img.now) Damaged Judged.Good) }
+    ensures { result ≡ ask (bits_are 0 img.now (free_at geo g img.now) f n) Damaged (ask (counts_fit geo g f n img.now) Damaged (Ok tt)) }
 {
     if !bits::clear_bits(img, free_at(img, geo, g), f as usize, n as usize) {
-        return Judged::Bad(Refusal::Damaged);
+        return Err(Refusal::Damaged);
     }
     if !counts_fit(img, geo, g, f, n) {
-        return Judged::Bad(Refusal::Damaged);
+        return Err(Refusal::Damaged);
     }
-    Judged::Good
+    Ok(())
 }
 
 // fs.h, dtog and dtogd: an address' group, and its fragment there.
@@ -150,19 +136,19 @@ pub fn numfrags(geo: Geometry, size: u64) -> u32
 }
 
 // Whether the run from the address a, whatever it and the size are, may be taken back.
-pub fn take_test(img: &[u8], geo: Geometry, a: FragNum, size: u64) -> Judged
+pub fn take_test(img: &[u8], geo: Geometry, a: FragNum, size: u64) -> Result<(), Refusal>
     requires { Frame geo img.now }
     ensures { result ≡ take_test geo a.0 size img.now }
 {
     if !good_size(geo, size) {
-        return Judged::Bad(Refusal::Invalid);
+        return Err(Refusal::Invalid);
     }
     let n = numfrags(geo, size);
     if !in_block(geo, a, n as u64) {
-        return Judged::Bad(Refusal::Invalid);
+        return Err(Refusal::Invalid);
     }
     if !frame::run_ok(img, geo, a, n as u64) {
-        return Judged::Bad(Refusal::Damaged);
+        return Err(Refusal::Damaged);
     }
     run_test(img, geo, dtog(geo, a), dtogd(geo, a), n)
 }

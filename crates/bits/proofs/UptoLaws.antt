@@ -1,4 +1,5 @@
 -- The laws of `specs/Upto.antt`, each over every test and every function. Assumes nothing.
+use Rattle.std.specs.Prelude.{Option, Some, None}
 use mathlib.Core.Path.{◌≡◌, refl, sym, ap, ◌∙◌}
 use mathlib.Core.Bool.{Bool, true, false, ◌&&◌, and_assoc}
 use mathlib.Core.Logic.{◌⊎◌, inl, inr, ⊎_elim}
@@ -7,8 +8,6 @@ use native.Mathlib.Nat.{add-zero, zero-add, add-suc, suc-add, add_assoc, eq-or-l
 use native.Mathlib.Numerals.{add-one}
 use native.Mathlib.Omega.{arith}
 use lib.Dec.{eqb}
-use Rattle.bits.specs.declared.Found.{Found}
-use Rattle.bits.specs.declared.Found.TheVariants.{At, Nothing}
 use Rattle.bits.specs.Upto.{all, sum, as_bit, count, pick_found, first}
 
 -- ---- tests
@@ -205,11 +204,11 @@ count_change p q n b l h =
 
 -- ---- `first`
 
-pub first-none : (p : ℕ → Bool) (i : ℕ) → first p i 0 ≡ Nothing
+pub first-none : (p : ℕ → Bool) (i : ℕ) → first p i 0 ≡ None
 unfolding first
 first-none p i = refl
 
-pub first-hit : (p : ℕ → Bool) (i m : ℕ) → 0 < m → p i ≡ true → first p i m ≡ At i
+pub first-hit : (p : ℕ → Bool) (i m : ℕ) → 0 < m → p i ≡ true → first p i m ≡ Some i
 unfolding first
 first-hit p i zero l h = absurd (let e : ⊥ = omega arith in e)
 first-hit p i (suc m) l h = rw h
@@ -230,12 +229,12 @@ pub record IsFirst (p : ℕ → Bool) (i m k : ℕ) : Type 0 where
   pub holds : p k ≡ true
   pub before : (j : ℕ) → i ≤ j → j < k → p j ≡ false
 
-pub first-found : (p : ℕ → Bool) (i m k : ℕ) → first p i m ≡ At k → IsFirst p i m k
+pub first-found : (p : ℕ → Bool) (i m k : ℕ) → first p i m ≡ Some k → IsFirst p i m k
 unfolding first
 first-found p i zero k e = absurd (let z : ◌≡◌ {A = ℕ} 0 1 = cc in let y : ⊥ = omega arith in y)
 first-found p i (suc m) k e = go (p i) refl e (first-found p (suc i) m k)
   where
-    go : (a : Bool) → p i ≡ a → pick_found a (At i) (first p (suc i) m) ≡ At k → (first p (suc i) m ≡ At k → IsFirst p (suc i) m k) → IsFirst p i (suc m) k
+    go : (a : Bool) → p i ≡ a → pick_found a (Some i) (first p (suc i) m) ≡ Some k → (first p (suc i) m ≡ Some k → IsFirst p (suc i) m k) → IsFirst p i (suc m) k
     go true a e f =
         let q : i ≡ k = cc in
         record { from = omega arith; below = omega arith; holds = ap p (sym q) ∙ a; before = λ j l u. absurd (let y : ⊥ = omega arith in y) }
@@ -248,35 +247,35 @@ first-found p i (suc m) k e = go (p i) refl e (first-found p (suc i) m k)
           before = λ j l u. ⊎_elim (λ q. ap p (sym q) ∙ a) (λ q. r.before j q u) (eq-or-lt_of_le l);
         }
 
-pub first_missing : (p : ℕ → Bool) (i m : ℕ) → first p i m ≡ Nothing → (j : ℕ) → i ≤ j → j < i + m → p j ≡ false
+pub first_missing : (p : ℕ → Bool) (i m : ℕ) → first p i m ≡ None → (j : ℕ) → i ≤ j → j < i + m → p j ≡ false
 unfolding first
 first_missing p i zero e j l u = absurd (let y : ⊥ = omega arith in y)
 first_missing p i (suc m) e j l u = go (p i) refl e (first_missing p (suc i) m)
   where
-    go : (a : Bool) → p i ≡ a → pick_found a (At i) (first p (suc i) m) ≡ Nothing → (first p (suc i) m ≡ Nothing → (j : ℕ) → suc i ≤ j → j < suc i + m → p j ≡ false) → p j ≡ false
+    go : (a : Bool) → p i ≡ a → pick_found a (Some i) (first p (suc i) m) ≡ None → (first p (suc i) m ≡ None → (j : ℕ) → suc i ≤ j → j < suc i + m → p j ≡ false) → p j ≡ false
     go true a e f = absurd (let z : ◌≡◌ {A = ℕ} 0 1 = cc in let y : ⊥ = omega arith in y)
     go false a e f = ⊎_elim (λ q. ap p (sym q) ∙ a) (λ q. f e j q (omega arith)) (eq-or-lt_of_le l)
 
-pub first_fails : (p : ℕ → Bool) (i m : ℕ) → ((j : ℕ) → i ≤ j → j < i + m → p j ≡ false) → first p i m ≡ Nothing
+pub first_fails : (p : ℕ → Bool) (i m : ℕ) → ((j : ℕ) → i ≤ j → j < i + m → p j ≡ false) → first p i m ≡ None
 unfolding first
 first_fails p i zero h = refl
 first_fails p i (suc m) h = rw (h i (omega arith) (omega arith)) (first_fails p (suc i) m (λ j l u. h j (omega arith) (omega arith)))
 
-pub first-is : (p : ℕ → Bool) (i m k : ℕ) → IsFirst p i m k → first p i m ≡ At k
+pub first-is : (p : ℕ → Bool) (i m k : ℕ) → IsFirst p i m k → first p i m ≡ Some k
 unfolding first
 first-is p i zero k r = absurd (let y : ⊥ = omega (arith, r.from, r.below) in y)
 first-is p i (suc m) k r = go (eq-or-lt_of_le r.from) (first-is p (suc i) m k)
   where
-    go : (i ≡ k) ⊎ (i < k) → (IsFirst p (suc i) m k → first p (suc i) m ≡ At k) → first p i (suc m) ≡ At k
+    go : (i ≡ k) ⊎ (i < k) → (IsFirst p (suc i) m k → first p (suc i) m ≡ Some k) → first p i (suc m) ≡ Some k
     go (inl e) f = rw (ap p e ∙ r.holds, e)
     go (inr l) f =
         rw (r.before i (omega arith) l)
         (f (record { from = l; below = omega (arith, r.below); holds = r.holds; before = λ j l u. r.before j (omega arith) u }))
 
 -- the first answer, or else the second
-abbrev pub or_else : Found → Found → Found
-or_else (At k) g = At k
-or_else Nothing g = g
+abbrev pub or_else : Option ℕ → Option ℕ → Option ℕ
+or_else (Some k) g = Some k
+or_else None g = g
 
 pub first-split : (p : ℕ → Bool) (i m n : ℕ) → first p i (m + n) ≡ or_else (first p i m) (first p (i + m) n)
 unfolding first
@@ -284,7 +283,7 @@ first-split p i zero n = rw (zero-add, add-zero)
 first-split p i (suc m) n = rw suc-add (go (p i) refl (first-split p (suc i) m n))
   where
     go : (a : Bool) → p i ≡ a → first p (suc i) (m + n) ≡ or_else (first p (suc i) m) (first p (suc i + m) n) →
-        pick_found a (At i) (first p (suc i) (m + n)) ≡ or_else (pick_found a (At i) (first p (suc i) m)) (first p (i + suc m) n)
+        pick_found a (Some i) (first p (suc i) (m + n)) ≡ or_else (pick_found a (Some i) (first p (suc i) m)) (first p (i + suc m) n)
     go true a e = refl
     go false a e = e ∙ ap (λ (j : ℕ). or_else (first p (suc i) m) (first p j n)) (omega arith)
 
@@ -297,20 +296,20 @@ module _ (p : ℕ → Bool) (n i to : ℕ) (l : i ≤ to) (u : to ≤ n) where
       let e : i + (to - i) ≡ to = omega arith in
       ap (first p i) q ∙ first-split p i (to - i) (n - to) ∙ ap (λ (j : ℕ). or_else (first p i (to - i)) (first p j (n - to))) e
 
-  pub first-turn : first p i (to - i) ≡ Nothing → first p i (n - i) ≡ first p to (n - to)
-  first-turn e = parted ∙ ap (λ (f : Found). or_else f (first p to (n - to))) e
+  pub first-turn : first p i (to - i) ≡ None → first p i (n - i) ≡ first p to (n - to)
+  first-turn e = parted ∙ ap (λ (f : Option ℕ). or_else f (first p to (n - to))) e
 
-  pub first-stop : {k : ℕ} → first p i (to - i) ≡ At k → first p i (n - i) ≡ At k
-  first-stop e = parted ∙ ap (λ (f : Found). or_else f (first p to (n - to))) e
+  pub first-stop : {k : ℕ} → first p i (to - i) ≡ Some k → first p i (n - i) ≡ Some k
+  first-stop e = parted ∙ ap (λ (f : Option ℕ). or_else f (first p to (n - to))) e
 
 -- ---- the same, one number at a time
 
 module _ (p : ℕ → Bool) (n i : ℕ) where
-  pub first-here : i < n → p i ≡ true → first p i (n - i) ≡ At i
+  pub first-here : i < n → p i ≡ true → first p i (n - i) ≡ Some i
   first-here l h = first-hit p i (n - i) (omega arith) h
 
   pub first_next : i < n → p i ≡ false → first p i (n - i) ≡ first p (i + 1) (n - (i + 1))
   first_next l h = let q : n - i ≡ n - (i + 1) + 1 = omega arith in ap (first p i) q ∙ first_miss p i (n - (i + 1)) h
 
-  pub first-end : n ≤ i → first p i (n - i) ≡ Nothing
+  pub first-end : n ≤ i → first p i (n - i) ≡ None
   first-end l = let q : n - i ≡ 0 = omega arith in ap (first p i) q ∙ first-none p i

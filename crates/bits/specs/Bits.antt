@@ -1,7 +1,6 @@
 -- The free map and the inode map: bits of the bytes of an image that begin at byte `at`. Assumes nothing.
-use Rattle.std.specs.Prelude.{◌≡◌, Bool, true, not, ◌&&◌, ◌||◌, List, [], ◌∷◌, ℕ, ◌+◌, ◌-◌, ◌*◌, ◌/◌, ◌%◌, ◌^◌, ◌<◌, ◌≤◌, eqb, ltb, get_or}
+use Rattle.std.specs.Prelude.{◌≡◌, Bool, true, not, ◌&&◌, ◌||◌, List, [], ◌∷◌, ℕ, ◌+◌, ◌-◌, ◌*◌, ◌/◌, ◌%◌, ◌^◌, ◌<◌, ◌≤◌, eqb, ltb, get_or, Option}
 use Rattle.field.specs.Field.{put}
-use Rattle.bits.specs.declared.Found.{Found}
 use Rattle.bits.specs.Upto.{all, sum, count, first}
 
 -- 01: "frag is 1, 2, 4 or 8"
@@ -45,11 +44,11 @@ unfoldable pub put_bits_at : ℕ → List ℕ → ℕ → ℕ → ℕ → List �
 put_bits_at v img at f n = put (at + f / 8) (put_bits v n (f % 8) (get_or img (at + f / 8) 0) ∷ []) img
 
 -- 01: "takes the first block whose bits are all 1", of nb blocks
-unfoldable pub first_free : ℕ → List ℕ → ℕ → ℕ → Found
+unfoldable pub first_free : ℕ → List ℕ → ℕ → ℕ → Option ℕ
 first_free frag img at nb = first (block_free frag img at) 0 nb
 
 -- 01: "the lowest clear bit", of n bits
-unfoldable pub first_clear : List ℕ → ℕ → ℕ → Found
+unfoldable pub first_clear : List ℕ → ℕ → ℕ → Option ℕ
 first_clear img at n = first (is_clear img at) 0 n
 
 -- 01: "nbfree is the number of aligned wholly free blocks", of nb blocks

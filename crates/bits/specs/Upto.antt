@@ -1,7 +1,5 @@
 -- Tests, sums, counts and searches over the numbers below n. Assumes nothing.
-use Rattle.std.specs.Prelude.{Bool, true, false, ◌&&◌, ℕ, zero, suc, ◌+◌}
-use Rattle.bits.specs.declared.Found.{Found}
-use Rattle.bits.specs.declared.Found.TheVariants.{At, Nothing}
+use Rattle.std.specs.Prelude.{Bool, true, false, ◌&&◌, ℕ, zero, suc, ◌+◌, Option, Some, None}
 
 -- p holds of each number below n
 unfoldable pub all : (ℕ → Bool) → ℕ → Bool
@@ -23,11 +21,11 @@ unfoldable pub count : (ℕ → Bool) → ℕ → ℕ
 count p n = sum (λ (k : ℕ). as_bit (p k)) n
 
 -- the one where the test holds, else the other
-abbrev pub pick_found : Bool → Found → Found → Found
+abbrev pub pick_found : Bool → Option ℕ → Option ℕ → Option ℕ
 pick_found true a b = a
 pick_found false a b = b
 
 -- the first of the m numbers i, i + 1, .. that p holds of
-unfoldable pub first : (ℕ → Bool) → ℕ → ℕ → Found
-first p i zero = Nothing
-first p i (suc m) = pick_found (p i) (At i) (first p (suc i) m)
+unfoldable pub first : (ℕ → Bool) → ℕ → ℕ → Option ℕ
+first p i zero = None
+first p i (suc m) = pick_found (p i) (Some i) (first p (suc i) m)

@@ -1,16 +1,9 @@
 // balloc.rs, cg_*: the rules of the free map and of the inode map, which are bytes of a lent slice that begin at `at`.
 #![tactic(auto)]
 
-ghost use Rattle.std.specs.Prelude.{◌≡◌, true, ◌+◌, ◌-◌, ◌*◌, ◌/◌, ◌%◌, ◌^◌, ◌<◌, ◌≤◌, min, eqb, length, get_or};
+ghost use Rattle.std.specs.Prelude.{◌≡◌, true, ◌+◌, ◌-◌, ◌*◌, ◌/◌, ◌%◌, ◌^◌, ◌<◌, ◌≤◌, eqb, length, get_or};
 ghost use Rattle.bits.specs.Upto.{as_bit};
 ghost use Rattle.bits.specs.Bits.{is_frag, frag_free, bits_are, block_free, block_full, put_bits, put_bits_at};
-
-// The number that a scan finds.
-#[derive(Clone, Copy)]
-pub enum Found {
-    At(usize),
-    Nothing,
-}
 
 // balloc.rs: cg_isfreefrag.
 pub fn isfreefrag(img: &[u8], at: usize, f: usize) -> bool
@@ -62,7 +55,7 @@ pub fn two_to(n: usize) -> usize
 pub fn as_bit(free: bool) -> usize
     ensures { (result ≡ as_bit free) × (result < 2) }
 {
-    if free { 1 } else { 0 }
+    usize::from(free)
 }
 
 // The byte x with its n bits from s made free or not.
@@ -147,14 +140,7 @@ fn bytes_clear(img: &[u8], at: usize, i: usize, n: usize) -> bool
     ensures { result ≡ bits_are 0 img.now at (8 * i) (8 * n) }
 {
     let from = at + i;
-    let mut k = 0;
-    while k < n {
-        if img[from + k] != 0 {
-            return false;
-        }
-        k += 1;
-    }
-    true
+    img[from..from + n].iter().all(|b| *b == 0)
 }
 
 // Whether the n bits from `from` are 0: whole bytes at once, and bits before and after them.
@@ -185,12 +171,6 @@ pub fn all_free(x: u8, s: usize, n: usize) -> bool
 {
     let run = two_to(n);
     wide(x >> s) % run == run - 1
-}
-
-pub fn least(a: usize, b: usize) -> usize
-    ensures { result ≡ min a b }
-{
-    if a < b { a } else { b }
 }
 
 // How many blocks stand in a byte.

@@ -21,10 +21,8 @@ pub fn count_free(img: &[u8], at: usize, n: usize) -> usize
     let whole = n / 8;
     let rest = n % 8;
     let mut total: usize = 0;
-    let mut i = 0;
-    while i < whole {
+    for i in 0..whole {
         total += frags_in_byte(img, at, i, 8);
-        i += 1;
     }
     if rest == 0 {
         return total;
@@ -38,10 +36,8 @@ fn blocks_in(img: &[u8], at: usize, frag: u32, from: usize, to: usize) -> usize
     ensures { free_blocks frag img.now at from + result ≡ free_blocks frag img.now at to }
 {
     let mut n: usize = 0;
-    let mut h = from;
-    while h < to {
+    for h in from..to {
         n += bits::as_bit(bits::isfreeblock(img, at, frag, h));
-        h += 1;
     }
     n
 }
@@ -70,8 +66,9 @@ pub fn count_blocks(img: &[u8], at: usize, frag: u32, nb: usize) -> usize
     let mut total: usize = 0;
     let mut i = 0;
     let mut h = 0;
+    // Not a `for`: the step is the number of blocks in a byte, and i goes along with h.
     while h < nb {
-        let to = bits::least(h + per, nb);
+        let to = (h + per).min(nb);
         total += blocks_in_byte(img, at, frag, i, h, to);
         h = to;
         i += 1;
@@ -96,12 +93,10 @@ pub fn count_map(img: &[u8], at: usize, frag: u32, n: usize) -> MapCount
     let bytes = (n + 7) / 8;
     let mut blocks: usize = 0;
     let mut frags: usize = 0;
-    let mut i = 0;
-    while i < bytes {
-        let to = bits::least(per * i + per, nb);
+    for i in 0..bytes {
+        let to = (per * i + per).min(nb);
         blocks += blocks_in_byte(img, at, frag, i, per * i, to);
-        frags += frags_in_byte(img, at, i, bits::least(8, n - 8 * i));
-        i += 1;
+        frags += frags_in_byte(img, at, i, (n - 8 * i).min(8));
     }
     MapCount { blocks, frags }
 }

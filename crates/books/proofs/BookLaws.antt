@@ -1,4 +1,5 @@
 -- Giving out and taking back write the books alone, and where the books lie. Assumes nothing.
+use Rattle.std.specs.Prelude.{Option, Some, None, Result, Ok, Err}
 use mathlib.Core.Path.{◌≡◌, refl, sym, ap, subst, ◌∙◌}
 use mathlib.Core.Bool.{Bool, true, false}
 use mathlib.Core.List.{List, [], ◌∷◌}
@@ -25,12 +26,8 @@ use Rattle.frame.proofs.WriteLaws.{count_in, total_in}
 use Rattle.bits.specs.Bits.{put_bits}
 use Rattle.bits.proofs.BitsLaws.{frag-some}
 use Rattle.store.specs.Act.{Act, Out, got, refused}
-use Rattle.balloc_give.specs.declared.Chosen.{Chosen}
-use Rattle.balloc_give.specs.declared.Chosen.TheVariants as Chosen
 use Rattle.balloc_give.specs.Give.{chosen, giving, give_stores, give_block}
 use Rattle.balloc_give.proofs.GiveLaws.{chosen-is, block_inside}
-use Rattle.balloc_take.specs.declared.Judged.{Judged}
-use Rattle.balloc_take.specs.declared.Judged.TheVariants.{Good, Bad}
 use Rattle.volume.specs.declared.Counts.{Counts}
 use Rattle.volume.specs.declared.Totals.{Totals}
 use Rattle.balloc_take.specs.Run.{BackRun}
@@ -59,9 +56,9 @@ module _ (geo : Geometry) (img : List ℕ) where
     unfolding give_block give_stores
     give-only = go (chosen geo img) refl
       where
-        go : (c : Chosen) → chosen geo img ≡ c → Only (Book geo img) (giving geo img c).stores
-        go Chosen.Nothing q = only_none
-        go (Chosen.Block g h) q =
+        go : (c : Option (ℕ × ℕ)) → chosen geo img ≡ c → Only (Book geo img) (giving geo img c).stores
+        go None q = only_none
+        go (Some (g, h)) q =
             let i = chosen-is geo img g h q in
             let w = block_inside geo img fr g h i.group i.block in
             only_stores (more (map-book 0 g (geo.frag * h) geo.frag i.group (omega (arith, w, frag-some geo.frag fr.sizes.frag))) none)
@@ -97,13 +94,13 @@ module _ (geo : Geometry) (img : List ℕ) where
     pub take-only : (a size : ℕ) → Only (Book geo img) (take_back geo a size img).stores
     take-only a size = go (ℕ_discrete a 0) (take_test geo a size img) refl (ℕ_discrete (size / geo.fsize) geo.frag)
       where
-        go : Dec (a ≡ 0) → (j : Judged) → take_test geo a size img ≡ j → Dec (size / geo.fsize ≡ geo.frag) → Only (Book geo img) (take_back geo a size img).stores
+        go : Dec (a ≡ 0) → (j : Result (Unit {0}) Refusal) → take_test geo a size img ≡ j → Dec (size / geo.fsize ≡ geo.frag) → Only (Book geo img) (take_back geo a size img).stores
         go (yes z) j e d = rw (back-zero geo a size img z) only_none
-        go (no z) (Bad e) q d = rw (back-bad geo a size img z q) only_none
-        go (no z) Good q (yes d) =
+        go (no z) (Err e) q d = rw (back-bad geo a size img z q) only_none
+        go (no z) (Ok u) q (yes d) =
             let r = good-run geo a size img q fr in
             rw (back-good geo a size img z q, stores-block geo a size img refl refl d) (block-only (a / geo.fpg) (a % geo.fpg) (size / geo.fsize) r)
-        go (no z) Good q (no d) =
+        go (no z) (Ok u) q (no d) =
             let r = good-run geo a size img q fr in
             rw (back-good geo a size img z q, stores-frags geo a size img refl refl refl d) (frags-only (a / geo.fpg) (a % geo.fpg) (size / geo.fsize) r)
 

@@ -6,8 +6,7 @@ ghost use Rattle.sound.specs.Test.{opened};
 ghost use Rattle.balloc.specs.Calls.{alloc_cut, alloc_plain, free_cut, free_plain, recount_plain};
 ghost use Rattle.boundary.specs.Words.{opened_word, given_words, freed_words, recounted_words, beside};
 
-use balloc::{Freed, Given, Recounted};
-use sound::Opened;
+use refusal::Refusal;
 use volume::{FragNum, Volume};
 
 #[unsafe(no_mangle)]
@@ -16,23 +15,28 @@ pub extern "C" fn hitchsnow_open(img: &[u8], writable: bool) -> u32
 {
     let o = sound::open(img, writable);
     match o {
-        Opened::Volume(_) => 0,
-        Opened::No(e) => refusal::number(e),
+        Ok(_) => 0,
+        Err(e) => refusal::number(e),
     }
 }
 
 // Writes what giving out answered.
-fn put_given(g: Given, address: &mut u64, given: &mut u64, made: &mut u64) -> u32
+fn put_given(
+    g: Result<(FragNum, u64, u64, Volume), Refusal>,
+    address: &mut u64,
+    given: &mut u64,
+    made: &mut u64,
+) -> u32
     ensures { (result, (address.new, (given.new, made.new))) ≡ given_words g }
 {
     match g {
-        Given::Block(a, size, n, _) => {
+        Ok((a, size, n, _)) => {
             *address = a.0;
             *given = size;
             *made = n;
             0
         }
-        Given::No(e) => {
+        Err(e) => {
             *address = 0;
             *given = 0;
             *made = 0;
@@ -73,15 +77,15 @@ pub extern "C" fn hitchsnow_blk_alloc_cut(
 }
 
 // Writes what taking back answered.
-fn put_freed(f: Freed, made: &mut u64) -> u32
+fn put_freed(f: Result<(u64, Volume), Refusal>, made: &mut u64) -> u32
     ensures { (result, made.new) ≡ freed_words f }
 {
     match f {
-        Freed::Made(n, _) => {
+        Ok((n, _)) => {
             *made = n;
             0
         }
-        Freed::No(e) => {
+        Err(e) => {
             *made = 0;
             refusal::number(e)
         }
@@ -118,16 +122,16 @@ pub extern "C" fn hitchsnow_blk_free_cut(
 }
 
 // Writes the totals that were counted.
-fn put_recounted(t: Recounted, nbfree: &mut u64, nffree: &mut u64) -> u32
+fn put_recounted(t: Result<(u64, u64, Volume), Refusal>, nbfree: &mut u64, nffree: &mut u64) -> u32
     ensures { (result, (nbfree.new, nffree.new)) ≡ recounted_words t }
 {
     match t {
-        Recounted::Totals(b, f, _) => {
+        Ok((b, f, _)) => {
             *nbfree = b;
             *nffree = f;
             0
         }
-        Recounted::No(e) => {
+        Err(e) => {
             *nbfree = 0;
             *nffree = 0;
             refusal::number(e)

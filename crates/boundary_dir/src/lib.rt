@@ -7,8 +7,8 @@ ghost use Rattle.dirnext.specs.Next.{dir_next, next_answer};
 ghost use Rattle.boundary.specs.Words.{beside};
 ghost use Rattle.boundary_dir.specs.Words.{lookup_words, entry_list, next_words};
 
-use dirlookup::Lookup;
-use dirnext::{DirEntry, Next};
+use dirnext::DirEntry;
+use refusal::Refusal;
 use volume::InodeNum;
 
 #[unsafe(no_mangle)]
@@ -16,11 +16,11 @@ pub extern "C" fn hitchsnow_dir_lookup(img: &[u8], inr: u32, name: &[u8], found:
     ensures { (result, found.new) ≡ lookup_words (lookup_of (dir_lookup img.now inr name.now)) }
 {
     match dirlookup::dir_lookup(img, InodeNum(inr), name) {
-        Lookup::Inode(i) => {
+        Ok(i) => {
             *found = i as u64;
             0
         }
-        Lookup::No(e) => {
+        Err(e) => {
             *found = 0;
             refusal::number(e)
         }
@@ -42,19 +42,19 @@ fn entry_list(e: DirEntry) -> [u64; 5]
 }
 
 // Writes the record that is told, or zeros at the end and beside a refusal.
-fn put_next(n: Next, words: &mut [u64; 5]) -> u32
+fn put_next(n: Result<Option<DirEntry>, Refusal>, words: &mut [u64; 5]) -> u32
     ensures { (result, words.new) ≡ next_words n }
 {
     match n {
-        Next::Entry(e) => {
+        Ok(Some(e)) => {
             *words = entry_list(e);
             0
         }
-        Next::End => {
+        Ok(None) => {
             *words = [0; 5];
             0
         }
-        Next::No(e) => {
+        Err(e) => {
             *words = [0; 5];
             refusal::number(e)
         }

@@ -1,17 +1,12 @@
 -- What crosses to C of the calls that change inodes and read attributes: 0 for an answer and otherwise the refusal's number, beside it what is answered. Assumes nothing: these are definitions.
-use Rattle.std.specs.Prelude.{List, ℕ, ◌%◌, get_or, replicate}
+use Rattle.std.specs.Prelude.{List, ℕ, ◌%◌, get_or, replicate, Result, Ok, Err}
 use Rattle.refusal.specs.Refusal.{number_of}
 use Rattle.store.specs.Act.{Out, got, refused}
 use Rattle.inode.specs.declared.InodeAttr.{InodeAttr}
 use Rattle.inode.specs.declared.Times.{Times}
 use Rattle.inode.specs.declared.InodeType.TheVariants.{RegularFile}
-use Rattle.inode_write.specs.declared.Wrote.{Wrote}
-use Rattle.inode_write.specs.declared.Wrote.TheVariants as Wrote
-use Rattle.xattr.specs.declared.Length.{Length}
-use Rattle.xattr.specs.declared.Length.TheVariants as Length
-use Rattle.xattr.specs.declared.Value.{Value}
-use Rattle.xattr.specs.declared.Value.TheVariants as Value
 use Rattle.boundary_inode.specs.Words.{attr_list}
+use Rattle.refusal.specs.declared.Refusal.{Refusal}
 
 -- the times as they cross: each before its nanoseconds, of which 32 bits are taken
 abbrev pub times_of : List ℕ → Times
@@ -57,16 +52,16 @@ done_word (got d) = 0
 done_word (refused e) = number_of e
 
 -- the number, and how many bytes were written
-abbrev pub wrote_words : Wrote → ℕ × ℕ
-wrote_words (Wrote.Bytes n) = (0, n)
-wrote_words (Wrote.No e) = (number_of e, 0)
+abbrev pub wrote_words : Result ℕ Refusal → ℕ × ℕ
+wrote_words (Ok n) = (0, n)
+wrote_words (Err e) = (number_of e, 0)
 
 -- the number, and how many bytes
-abbrev pub length_words : Length → ℕ × ℕ
-length_words (Length.Bytes n) = (0, n)
-length_words (Length.No e) = (number_of e, 0)
+abbrev pub length_words : Result ℕ Refusal → ℕ × ℕ
+length_words (Ok n) = (0, n)
+length_words (Err e) = (number_of e, 0)
 
 -- the number, and where the value begins and ends in the buffer
-abbrev pub value_words : Value → ℕ × (ℕ × ℕ)
-value_words (Value.At b e) = (0, (b, e))
-value_words (Value.No e) = (number_of e, (0, 0))
+abbrev pub value_words : Result (ℕ × ℕ) Refusal → ℕ × (ℕ × ℕ)
+value_words (Ok (b, e)) = (0, (b, e))
+value_words (Err e) = (number_of e, (0, 0))

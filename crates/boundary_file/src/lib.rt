@@ -3,7 +3,7 @@
 
 ghost use Rattle.std.specs.Prelude.{◌≡◌};
 ghost use Rattle.store.specs.Act.{leaves};
-ghost use Rattle.inode_modify.specs.Modify.{inode_modify, modified_out};
+ghost use Rattle.inode_modify.specs.Modify.{inode_modify};
 ghost use Rattle.inode_truncate.specs.Truncate.{truncated_out};
 ghost use Rattle.truncate.specs.Call.{inode_truncate};
 ghost use Rattle.inode_write.specs.Calls.{inode_write, wrote_answer};
@@ -12,12 +12,8 @@ ghost use Rattle.boundary.specs.Words.{beside};
 ghost use Rattle.boundary_file.specs.Words.{times_of, wanted, changed_words, done_word, wrote_words, length_words, value_words};
 
 use inode::{InodeAttr, InodeType, Times};
-use inode_attr::Attr;
-use inode_modify::Modified;
-use inode_truncate::Truncated;
-use inode_write::Wrote;
+use refusal::Refusal;
 use volume::{InodeNum, Volume};
-use xattr::{Length, Value};
 
 // The times, each before its nanoseconds, in the order in which the attributes cross.
 fn times_of(times: &[u64; 8]) -> Times
@@ -57,16 +53,6 @@ fn wanted_attr(perm: u16, uid: u32, gid: u32, flags: u32, times: &[u64; 8]) -> I
     }
 }
 
-// Writes the attributes that the changed record has, or zeros beside a refusal.
-fn put_modified(m: Modified, words: &mut [u64; 21]) -> u32
-    ensures { (result, words.new) ≡ changed_words (modified_out m) }
-{
-    match m {
-        Modified::To(a) => boundary_inode::put_attr(Attr::Of(a), words),
-        Modified::No(e) => boundary_inode::put_attr(Attr::No(e), words),
-    }
-}
-
 #[unsafe(no_mangle)]
 pub extern "C" fn hitchsnow_inode_modify(
     img: &mut [u8],
@@ -83,16 +69,16 @@ pub extern "C" fn hitchsnow_inode_modify(
 {
     let a = wanted_attr(perm, uid, gid, flags, times);
     let m = inode_modify::inode_modify(img, Volume { writable }, InodeNum(inr), a);
-    put_modified(m, words)
+    boundary_inode::put_attr(m, words)
 }
 
 // The number of what setting a size answered.
-fn done_number(t: Truncated) -> u32
+fn done_number(t: Result<(), Refusal>) -> u32
     ensures { result ≡ done_word (truncated_out t) }
 {
     match t {
-        Truncated::Done => 0,
-        Truncated::No(e) => refusal::number(e),
+        Ok(()) => 0,
+        Err(e) => refusal::number(e),
     }
 }
 
@@ -110,15 +96,15 @@ pub extern "C" fn hitchsnow_inode_truncate(
 }
 
 // Writes how many bytes were written.
-fn put_wrote(w: Wrote, count: &mut u64) -> u32
+fn put_wrote(w: Result<u64, Refusal>, count: &mut u64) -> u32
     ensures { (result, count.new) ≡ wrote_words w }
 {
     match w {
-        Wrote::Bytes(n) => {
+        Ok(n) => {
             *count = n;
             0
         }
-        Wrote::No(e) => {
+        Err(e) => {
             *count = 0;
             refusal::number(e)
         }
@@ -141,15 +127,15 @@ pub extern "C" fn hitchsnow_inode_write(
 }
 
 // Writes how many bytes.
-fn put_length(l: Length, len: &mut u64) -> u32
+fn put_length(l: Result<u32, Refusal>, len: &mut u64) -> u32
     ensures { (result, len.new) ≡ length_words l }
 {
     match l {
-        Length::Bytes(n) => {
+        Ok(n) => {
             *len = n as u64;
             0
         }
-        Length::No(e) => {
+        Err(e) => {
             *len = 0;
             refusal::number(e)
         }
@@ -181,16 +167,16 @@ pub extern "C" fn hitchsnow_xattr_list(img: &[u8], inr: u32, out: &mut [u8], len
 }
 
 // Writes where the value begins and ends in the buffer.
-fn put_value(v: Value, begin: &mut u64, end: &mut u64) -> u32
+fn put_value(v: Result<(usize, usize), Refusal>, begin: &mut u64, end: &mut u64) -> u32
     ensures { (result, (begin.new, end.new)) ≡ value_words v }
 {
     match v {
-        Value::At(b, e) => {
+        Ok((b, e)) => {
             *begin = b as u64;
             *end = e as u64;
             0
         }
-        Value::No(e) => {
+        Err(e) => {
             *begin = 0;
             *end = 0;
             refusal::number(e)

@@ -8,8 +8,7 @@ ghost use Rattle.boundary.specs.Words.{beside};
 ghost use Rattle.boundary_inode.specs.Words.{attr_list, attr_words, size_words, resolved_words, read_words};
 
 use inode::InodeAttr;
-use inode_attr::Attr;
-use inode_read::{BlockSize, Read, Resolved};
+use refusal::Refusal;
 use volume::{BlockIdx, InodeNum};
 
 // data.rs: InodeAttr, number by number.
@@ -44,15 +43,15 @@ fn attr_list(a: InodeAttr) -> [u64; 21]
 }
 
 // Writes the attributes, or zeros beside a refusal.
-pub fn put_attr(a: Attr, words: &mut [u64; 21]) -> u32
+pub fn put_attr(a: Result<InodeAttr, Refusal>, words: &mut [u64; 21]) -> u32
     ensures { (result, words.new) ≡ attr_words a }
 {
     match a {
-        Attr::Of(i) => {
+        Ok(i) => {
             *words = attr_list(i);
             0
         }
-        Attr::No(e) => {
+        Err(e) => {
             *words = [0; 21];
             refusal::number(e)
         }
@@ -77,11 +76,11 @@ pub extern "C" fn hitchsnow_inode_get_block_size(
     ensures { (result, size.new) ≡ size_words (size_answer (inode_get_block_size img.now inr i)) }
 {
     match inode_block::inode_get_block_size(img, InodeNum(inr), BlockIdx(i)) {
-        BlockSize::Bytes(n) => {
+        Ok(n) => {
             *size = n;
             0
         }
-        BlockSize::No(e) => {
+        Err(e) => {
             *size = 0;
             refusal::number(e)
         }
@@ -98,15 +97,15 @@ pub extern "C" fn hitchsnow_inode_resolve_block(
     ensures { (result, address.new) ≡ resolved_words (resolved_answer (inode_resolve_block img.now inr i)) }
 {
     match inode_block::inode_resolve_block(img, InodeNum(inr), BlockIdx(i)) {
-        Resolved::At(a) => {
+        Ok(Some(a)) => {
             *address = a.0;
             0
         }
-        Resolved::Hole => {
+        Ok(None) => {
             *address = 0;
             0
         }
-        Resolved::No(e) => {
+        Err(e) => {
             *address = 0;
             refusal::number(e)
         }
@@ -114,15 +113,15 @@ pub extern "C" fn hitchsnow_inode_resolve_block(
 }
 
 // Writes how many bytes were read.
-fn put_read(a: Read, count: &mut u64) -> u32
+fn put_read(a: Result<u64, Refusal>, count: &mut u64) -> u32
     ensures { (result, count.new) ≡ read_words a }
 {
     match a {
-        Read::Bytes(n) => {
+        Ok(n) => {
             *count = n;
             0
         }
-        Read::No(e) => {
+        Err(e) => {
             *count = 0;
             refusal::number(e)
         }

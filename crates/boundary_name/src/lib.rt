@@ -16,23 +16,9 @@ ghost use Rattle.boundary.specs.Words.{beside};
 ghost use Rattle.boundary_file.specs.Words.{changed_words, done_word};
 ghost use Rattle.boundary_name.specs.Words.{node_by, gone_words};
 
-use dirlink::Gone;
-use dirmake::Made;
-use inode::Kind;
-use inode_attr::Attr;
-use inode_setblock::Written;
+use inode::InodeAttr;
 use refusal::Refusal;
 use volume::{InodeNum, Volume};
-
-// Writes the attributes of what was made, or zeros beside a refusal.
-fn put_made(m: Made, words: &mut [u64; 21]) -> u32
-    ensures { (result, words.new) ≡ changed_words (made_out m) }
-{
-    match m {
-        Made::Attr(a) => boundary_inode::put_attr(Attr::Of(a), words),
-        Made::No(e) => boundary_inode::put_attr(Attr::No(e), words),
-    }
-}
 
 // mknod by a mode's type.
 fn make_node(
@@ -46,13 +32,11 @@ fn make_node(
     gid: u32,
     sec: u64,
     nsec: u32,
-) -> Made
+) -> Result<InodeAttr, Refusal>
     ensures { (img.new, made_out result) ≡ leaves (node_by vol dinr name.now perm uid gid (one_time sec nsec) (kind_of (type_of mode))) img.old }
 {
-    match inode::kind_of(mode) {
-        Kind::Is(k) => mknod::mknod(img, vol, InodeNum(dinr), name, k, perm, uid, gid, sec, nsec),
-        Kind::Nameless => Made::No(Refusal::Invalid),
-    }
+    let k = inode::kind_of(mode).ok_or(Refusal::Invalid)?;
+    mknod::mknod(img, vol, InodeNum(dinr), name, k, perm, uid, gid, sec, nsec)
 }
 
 #[unsafe(no_mangle)]
@@ -83,7 +67,7 @@ pub extern "C" fn hitchsnow_mknod(
         sec,
         nsec,
     );
-    put_made(m, words)
+    boundary_inode::put_attr(m, words)
 }
 
 #[unsafe(no_mangle)]
@@ -112,15 +96,15 @@ pub extern "C" fn hitchsnow_mkdir(
         sec,
         nsec,
     );
-    put_made(m, words)
+    boundary_inode::put_attr(m, words)
 }
 
-fn done_number(w: Written) -> u32
+fn done_number(w: Result<(), Refusal>) -> u32
     ensures { result ≡ done_word (written_out w) }
 {
     match w {
-        Written::Done => 0,
-        Written::No(e) => refusal::number(e),
+        Ok(()) => 0,
+        Err(e) => refusal::number(e),
     }
 }
 
@@ -141,15 +125,15 @@ pub extern "C" fn hitchsnow_rmdir(img: &mut [u8], writable: bool, dinr: u32, nam
 }
 
 // Writes the inode that has the new name, or 0 beside a refusal.
-fn put_gone(g: Gone, inr: &mut u64) -> u32
+fn put_gone(g: Result<u32, Refusal>, inr: &mut u64) -> u32
     ensures { (result, inr.new) ≡ gone_words (gone_out g) }
 {
     match g {
-        Gone::Inode(i) => {
+        Ok(i) => {
             *inr = i as u64;
             0
         }
-        Gone::No(e) => {
+        Err(e) => {
             *inr = 0;
             refusal::number(e)
         }

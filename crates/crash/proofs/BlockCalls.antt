@@ -1,4 +1,5 @@
 -- The block calls have the shape: a block given, a block back, fragments back; and the theorem of demand 3. Assumes nothing.
+use Rattle.std.specs.Prelude.{Option, Some, None, Result, Ok, Err}
 use mathlib.Core.Path.{◌≡◌, refl, sym, ap, subst, ◌∙◌}
 use mathlib.Core.Bool.{Bool, true, false}
 use mathlib.Core.List.{List, [], ◌∷◌, ◌++◌}
@@ -24,7 +25,6 @@ use Rattle.bits.specs.Bits.{bits_are, put_bits_at}
 use Rattle.bits.proofs.UptoLaws.{as_bit-true, as_bit-false}
 use Rattle.bits.proofs.BitsLaws.{frag-most, kept-put_bits_at}
 use Rattle.sound.specs.Clauses.{soundb}
-use Rattle.sound.specs.declared.Taken.TheVariants.{Sound}
 use Rattle.sound.specs.Test.{taken_of}
 use Rattle.sound.specs.Sound.{group_at, free_at}
 use Rattle.frame.specs.Frame.{Frame}
@@ -32,12 +32,8 @@ use Rattle.frame.specs.Writes.{map_write, count_write, total_write, up, down}
 use Rattle.frame.proofs.Places.{frame-of}
 use Rattle.frame.proofs.SoundKept.{marked-of, bounded-of}
 use Rattle.frame.proofs.WriteLaws.{apply-map, up-fits, down-fits}
-use Rattle.balloc_give.specs.declared.Chosen.{Chosen}
-use Rattle.balloc_give.specs.declared.Chosen.TheVariants as Chosen
 use Rattle.balloc_give.specs.Give.{chosen, giving, give_stores, give_block}
 use Rattle.balloc_give.proofs.GiveLaws.{IsChosen, chosen-is}
-use Rattle.balloc_take.specs.declared.Judged.{Judged}
-use Rattle.balloc_take.specs.declared.Judged.TheVariants.{Good, Bad}
 use Rattle.balloc_take.specs.Take.{good_size, take_test, block_stores, frag_maps, frag_counts, count_stores, frag_stores, take_stores, whole_then, group_count, take_back}
 use Rattle.balloc_take.specs.Run.{BackRun}
 use Rattle.balloc_take.proofs.TestLaws.{Passed, test_good, good-run}
@@ -53,6 +49,7 @@ use Rattle.crash.proofs.Shape as shape
 use Rattle.crash.proofs.Shape.{SmallWrite, Shaped, Held}
 use Rattle.crash.proofs.Demand.{Going, CallCut, going_taken, run-cut}
 use Rattle.crash.proofs.Calls.{nothing_stored, shape-stored}
+use Rattle.refusal.specs.declared.Refusal.{Refusal}
 
 -- ---- map bytes, cut anywhere
 
@@ -166,14 +163,14 @@ module _ (geo : Geometry) (img : List ℕ) (fr : Frame geo img) (t : TrueCounts 
 made-stores : {A : Type 0} {r q : Run A} → r ≡ q → r.stores ≡ q.stores
 made-stores e = rw e
 
-give-stores : (geo : Geometry) (z : List ℕ) (g h : ℕ) → chosen geo z ≡ Chosen.Block g h
+give-stores : (geo : Geometry) (z : List ℕ) (g h : ℕ) → chosen geo z ≡ Some (g, h)
     → (give_block geo z).stores
     ≡ ((map_write 0 geo g (geo.frag * h) geo.frag z ∷ []) ∷ [])
     ++ ((count_write geo g Nbfree (down 4 (count_at geo.order Nbfree (cg_at geo g) z) 1) ∷ []) ∷ (total_write geo Nbfree (down 8 (total_at geo.order Nbfree z) 1) ∷ []) ∷ [])
 unfolding give_block give_stores
 give-stores geo z g h e = rw e
 
-give-nothing : (geo : Geometry) (z : List ℕ) → chosen geo z ≡ Chosen.Nothing → (give_block geo z).stores ≡ []
+give-nothing : (geo : Geometry) (z : List ℕ) → chosen geo z ≡ None → (give_block geo z).stores ≡ []
 unfolding give_block
 give-nothing geo z e = rw e
 
@@ -207,16 +204,16 @@ module _ (vol : Volume) (geo : Geometry) (start z : List ℕ) (w : vol.writable 
   fr : Frame geo z
   fr = s.held.frame
 
-  taken : taken_of z ≡ Sound geo
+  taken : taken_of z ≡ Ok geo
   taken = going_taken geo z s.held s.marked
 
   give-call : (size : ℕ) → CallCut vol geo start z (give size)
   unfolding give_stores
   give-call size = sized (good_size geo size) refl
     where
-      picked : good_size geo size ≡ true → (c : Chosen) → chosen geo z ≡ c → CallCut vol geo start z (give size)
-      picked b Chosen.Nothing e = nothing_stored vol geo start z s (give size) (made-stores (alloc-is vol size 0 z geo taken w b) ∙ give-nothing geo z e)
-      picked b (Chosen.Block g h) e =
+      picked : good_size geo size ≡ true → (c : Option (ℕ × ℕ)) → chosen geo z ≡ c → CallCut vol geo start z (give size)
+      picked b None e = nothing_stored vol geo start z s (give size) (made-stores (alloc-is vol size 0 z geo taken w b) ∙ give-nothing geo z e)
+      picked b (Some (g, h)) e =
           let i = chosen-is geo z g h e in
           shape-stored vol geo start z s (give size) _ _ (made-stores (alloc-is vol size 0 z geo taken w b) ∙ give-stores geo z g h e) (give-shape geo z fr s.counts g h i)
           (true-give geo z fr s.counts g h i) (λ k cs l. before-one vol geo z (give size) cs _ k l)
@@ -226,7 +223,7 @@ module _ (vol : Volume) (geo : Geometry) (start z : List ℕ) (w : vol.writable 
       sized true b = picked b (chosen geo z) refl
 
   module _ (a size : ℕ) where
-    back : (nz : a ≡ 0 → ⊥) → take_test geo a size z ≡ Good → Passed geo a size z → Dec (size / geo.fsize ≡ geo.frag) → CallCut vol geo start z (take a size)
+    back : (nz : a ≡ 0 → ⊥) → take_test geo a size z ≡ Ok tt → Passed geo a size z → Dec (size / geo.fsize ≡ geo.frag) → CallCut vol geo start z (take a size)
     back nz j p (yes q) =
         let e = block-stores geo a size z q in
         let r = subst (λ (n : ℕ). BackRun geo z (a / geo.fpg) (a % geo.fpg) n) q (good-run geo a size z j fr) in
@@ -242,9 +239,9 @@ module _ (vol : Volume) (geo : Geometry) (start z : List ℕ) (w : vol.writable 
     take-call : CallCut vol geo start z (take a size)
     take-call = at (ℕ_discrete a 0)
       where
-        judged : (a ≡ 0 → ⊥) → (j : Judged) → take_test geo a size z ≡ j → CallCut vol geo start z (take a size)
-        judged nz (Bad n) e = nothing_stored vol geo start z s (take a size) (made-stores (free-is vol a size 0 z geo taken w ∙ back-bad geo a size z nz e))
-        judged nz Good e = back nz e (test_good geo a size z e) (ℕ_discrete (size / geo.fsize) geo.frag)
+        judged : (a ≡ 0 → ⊥) → (j : Result (Unit {0}) Refusal) → take_test geo a size z ≡ j → CallCut vol geo start z (take a size)
+        judged nz (Err n) e = nothing_stored vol geo start z s (take a size) (made-stores (free-is vol a size 0 z geo taken w ∙ back-bad geo a size z nz e))
+        judged nz (Ok u) e = back nz e (test_good geo a size z e) (ℕ_discrete (size / geo.fsize) geo.frag)
 
         at : Dec (a ≡ 0) → CallCut vol geo start z (take a size)
         at (yes e) = nothing_stored vol geo start z s (take a size) (made-stores (free-is vol a size 0 z geo taken w ∙ back-zero geo a size z e))

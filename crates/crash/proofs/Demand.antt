@@ -1,4 +1,5 @@
 -- Demand 3: a run cut after any store, and one recount. From the shape of each call's stores, by induction over the run. Assumes nothing.
+use Rattle.std.specs.Prelude.{Ok}
 use mathlib.Core.Path.{◌≡◌, refl, sym, ap, subst, ◌∙◌}
 use mathlib.Core.Bool.{Bool, true, false}
 use mathlib.Core.List.{List, [], ◌∷◌, ◌++◌, append_assoc}
@@ -19,7 +20,6 @@ use Rattle.volume.specs.Volume.{geometry_of, cg_at}
 use Rattle.bits.specs.Bits.{bit_at}
 use Rattle.sound.specs.Clauses.{soundb}
 use Rattle.sound.specs.Sound.{group_at, free_at, free_bit}
-use Rattle.sound.specs.declared.Taken.TheVariants.{Sound}
 use Rattle.sound.specs.Test.{taken_of}
 use Rattle.sound.proofs.Laws.{taken-yes}
 use Rattle.frame.specs.Frame.{Frame}
@@ -46,8 +46,8 @@ pub record Going (geo : Geometry) (start z : List ℕ) : Type 0 where
 pub going_sound : (geo : Geometry) (x : List ℕ) → Held geo x → Marked geo x → soundb x ≡ true
 going_sound geo x h m = sound_again geo x h.frame m h.bounded
 
-pub going_taken : (geo : Geometry) (x : List ℕ) → Held geo x → Marked geo x → taken_of x ≡ Sound geo
-going_taken geo x h m = taken-yes x (going_sound geo x h m) ∙ ap Sound (sym h.frame.same)
+pub going_taken : (geo : Geometry) (x : List ℕ) → Held geo x → Marked geo x → taken_of x ≡ Ok geo
+going_taken geo x h m = taken-yes x (going_sound geo x h m) ∙ ap Ok (sym h.frame.same)
 
 -- where a group's map begins depends on its record alone
 free-place : (geo : Geometry) (g : ℕ) (xs ys : List ℕ) → group_at geo g ys ≡ group_at geo g xs → free_at geo g ys ≡ free_at geo g xs

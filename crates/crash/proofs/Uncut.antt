@@ -1,4 +1,5 @@
 -- An uncut run of the block calls keeps the frame, moves the free fragments by what it gave and took back, and leaves true counts true. Assumes nothing.
+use Rattle.std.specs.Prelude.{Option, Some, None, Result, Ok, Err}
 use mathlib.Core.Path.{◌≡◌, refl, sym, ap, subst, ◌∙◌}
 use mathlib.Core.Bool.{Bool, true, false}
 use mathlib.Core.List.{List, [], ◌∷◌}
@@ -18,17 +19,12 @@ use Rattle.volume.specs.declared.Geometry.{Geometry}
 use Rattle.volume.specs.declared.Volume.{Volume}
 use Rattle.volume.specs.Volume.{geometry_of}
 use Rattle.sound.specs.Clauses.{soundb}
-use Rattle.sound.specs.declared.Taken.TheVariants.{Sound}
 use Rattle.sound.specs.Test.{taken_of}
 use Rattle.frame.specs.Frame.{Frame}
 use Rattle.frame.proofs.Places.{frame-of}
-use Rattle.balloc_give.specs.declared.Chosen.{Chosen}
-use Rattle.balloc_give.specs.declared.Chosen.TheVariants as Chosen
 use Rattle.balloc_give.specs.Give.{chosen, give_stores, give_block, block_address}
 use Rattle.balloc_give.proofs.GiveLaws.{chosen-is}
 use Rattle.balloc_give.proofs.Theorems.{give-frame}
-use Rattle.balloc_take.specs.declared.Judged.{Judged}
-use Rattle.balloc_take.specs.declared.Judged.TheVariants.{Good, Bad}
 use Rattle.balloc_take.specs.Take.{good_size, take_test, take_stores, take_back, pick}
 use Rattle.balloc_take.proofs.TestLaws.{test_good}
 use Rattle.balloc_take.proofs.TakeLaws.{back-zero, back-good, back-bad, take-frame}
@@ -74,15 +70,15 @@ module _ (vol : Volume) (geo : Geometry) (z : List ℕ) (fr : Frame geo z) where
   unfolding TakeMoved
   take-refused a size e q = rw q (nothing-back (eqb a 0))
 
-  give-none : chosen geo z ≡ Chosen.Nothing → give_block geo z ≡ record { stores = []; out = refused NoSpace }
+  give-none : chosen geo z ≡ None → give_block geo z ≡ record { stores = []; out = refused NoSpace }
   unfolding give_block
   give-none e = rw e
 
-  give-some : (g h : ℕ) → chosen geo z ≡ Chosen.Block g h → give_block geo z ≡ record { stores = give_stores geo z g h; out = got (block_address geo g h) }
+  give-some : (g h : ℕ) → chosen geo z ≡ Some (g, h) → give_block geo z ≡ record { stores = give_stores geo z g h; out = got (block_address geo g h) }
   unfolding give_block
   give-some g h e = rw e
 
-  give-moved : (size g h : ℕ) → chosen geo z ≡ Chosen.Block g h → blk_alloc vol size z ≡ give_block geo z → GiveMoved size
+  give-moved : (size g h : ℕ) → chosen geo z ≡ Some (g, h) → blk_alloc vol size z ≡ give_block geo z → GiveMoved size
   unfolding GiveMoved
   give-moved size g h e q =
       let i = chosen-is geo z g h e in
@@ -94,7 +90,7 @@ module _ (vol : Volume) (geo : Geometry) (z : List ℕ) (fr : Frame geo z) where
   unfolding TakeMoved
   take-nothing a size e q = rw (q ∙ back-zero geo a size z e, eq-eqb a 0 e) still
 
-  take-moved : (a size : ℕ) → (a ≡ 0 → ⊥) → take_test geo a size z ≡ Good → blk_free vol a size z ≡ take_back geo a size z → TakeMoved a size
+  take-moved : (a size : ℕ) → (a ≡ 0 → ⊥) → take_test geo a size z ≡ Ok tt → blk_free vol a size z ≡ take_back geo a size z → TakeMoved a size
   unfolding TakeMoved
   take-moved a size n j q =
       let p = test_good geo a size z j in
@@ -103,36 +99,36 @@ module _ (vol : Volume) (geo : Geometry) (z : List ℕ) (fr : Frame geo z) where
       rw (q ∙ s, ne_eqb a 0 n) (record { frame = f; free = omega (arith, free-take geo z fr a size p); counts = λ t. true-take geo z fr t a size p })
 
   -- the geometry that the call reads is the frame's
-  same_taken : (own : Geometry) → taken_of z ≡ Sound own → taken_of z ≡ Sound geo
-  same_taken own e = e ∙ ap Sound (sym (taken-is z own e).1 ∙ sym fr.same)
+  same_taken : (own : Geometry) → taken_of z ≡ Ok own → taken_of z ≡ Ok geo
+  same_taken own e = e ∙ ap Ok (sym (taken-is z own e).1 ∙ sym fr.same)
 
   give-any : (size : ℕ) → GiveMoved size
   give-any size = in-give (alloc_entered vol size z)
     where
-      picked : taken_of z ≡ Sound geo → vol.writable ≡ true → good_size geo size ≡ true → (c : Chosen) → chosen geo z ≡ c → GiveMoved size
-      picked t w b Chosen.Nothing e = give-refused size NoSpace (alloc-is vol size 0 z geo t w b ∙ give-none e)
-      picked t w b (Chosen.Block g h) e = give-moved size g h e (alloc-is vol size 0 z geo t w b)
+      picked : taken_of z ≡ Ok geo → vol.writable ≡ true → good_size geo size ≡ true → (c : Option (ℕ × ℕ)) → chosen geo z ≡ c → GiveMoved size
+      picked t w b None e = give-refused size NoSpace (alloc-is vol size 0 z geo t w b ∙ give-none e)
+      picked t w b (Some (g, h)) e = give-moved size g h e (alloc-is vol size 0 z geo t w b)
 
-      sized : taken_of z ≡ Sound geo → vol.writable ≡ true → (b : Bool) → good_size geo size ≡ b → GiveMoved size
+      sized : taken_of z ≡ Ok geo → vol.writable ≡ true → (b : Bool) → good_size geo size ≡ b → GiveMoved size
       sized t w true b = picked t w b (chosen geo z) refl
       sized t w false b = give-refused size Invalid (alloc-bad vol size 0 z geo t w b)
 
-      in-give : ((e : Refusal) × (blk_alloc vol size z ≡ record { stores = []; out = refused e })) ⊎ ((own : Geometry) × (taken_of z ≡ Sound own) × (vol.writable ≡ true)) → GiveMoved size
+      in-give : ((e : Refusal) × (blk_alloc vol size z ≡ record { stores = []; out = refused e })) ⊎ ((own : Geometry) × (taken_of z ≡ Ok own) × (vol.writable ≡ true)) → GiveMoved size
       in-give (inl r) = give-refused size r.0 r.1
       in-give (inr r) = sized (same_taken r.0 r.1) r.2 (good_size geo size) refl
 
   take-any : (a size : ℕ) → TakeMoved a size
   take-any a size = in_take (free-entered vol a size z)
     where
-      judged : blk_free vol a size z ≡ take_back geo a size z → (a ≡ 0 → ⊥) → (j : Judged) → take_test geo a size z ≡ j → TakeMoved a size
-      judged q n Good e = take-moved a size n e q
-      judged q n (Bad r) e = take-refused a size r (q ∙ back-bad geo a size z n e)
+      judged : blk_free vol a size z ≡ take_back geo a size z → (a ≡ 0 → ⊥) → (j : Result (Unit {0}) Refusal) → take_test geo a size z ≡ j → TakeMoved a size
+      judged q n (Ok u) e = take-moved a size n e q
+      judged q n (Err r) e = take-refused a size r (q ∙ back-bad geo a size z n e)
 
       placed : blk_free vol a size z ≡ take_back geo a size z → Dec (a ≡ 0) → TakeMoved a size
       placed q (yes e) = take-nothing a size e q
       placed q (no n) = judged q n (take_test geo a size z) refl
 
-      in_take : ((e : Refusal) × (blk_free vol a size z ≡ record { stores = []; out = refused e })) ⊎ ((own : Geometry) × (taken_of z ≡ Sound own) × (vol.writable ≡ true)) → TakeMoved a size
+      in_take : ((e : Refusal) × (blk_free vol a size z ≡ record { stores = []; out = refused e })) ⊎ ((own : Geometry) × (taken_of z ≡ Ok own) × (vol.writable ≡ true)) → TakeMoved a size
       in_take (inl r) = take-refused a size r.0 r.1
       in_take (inr r) = placed (free-is vol a size 0 z geo (same_taken r.0 r.1) r.2) (ℕ_discrete a 0)
 

@@ -2,10 +2,8 @@
 // 01 asks of the card. `stdout` has what 01's words give on the same bytes.
 #![tactic(auto)]
 
-use balloc::{Freed, Given, Recounted};
-use field::Order;
+use field::{Number, Order};
 use refusal::Refusal;
-use sound::Opened;
 use std::fs;
 use std::io::{self, Read};
 use std::rt::Files;
@@ -41,23 +39,14 @@ const FREEOFF: usize = 96;
 // A card whole, the smaller one in the first bytes.
 type Card = [u8; 331776];
 
-// What a call of a run does: a block given; a run of fragments back, by its address or from the block given last.
+// A call of a run: a block given, of so many bytes; a run of fragments back, its address and bytes, or its first fragment in the
+// block given last and its bytes.
 #[derive(Clone, Copy)]
-enum Act {
-    Give,
-    Back,
-    BackGiven,
-    Nothing,
+enum Call {
+    Give(u64),
+    Back(u64, u64),
+    BackGiven(u64, u64),
 }
-
-#[derive(Clone, Copy)]
-struct Call {
-    act: Act,
-    at: u64,
-    size: u64,
-}
-
-type Calls = [Call; 6];
 
 // Where a run is: the stores left and made, the calls made, the block given last.
 #[derive(Clone, Copy)]
@@ -94,21 +83,21 @@ fn get8(img: &Card, at: usize) -> u8 {
 
 fn get32(img: &Card, at: usize) -> u32 {
     if at < 331773 {
-        return field::get_u32(Order::Little, img, at);
+        return u32::get(Order::Little, img, at);
     }
     0
 }
 
 fn get64(img: &Card, at: usize) -> u64 {
     if at < 331769 {
-        return field::get_u64(Order::Little, img, at);
+        return u64::get(Order::Little, img, at);
     }
     0
 }
 
 fn put32(img: &mut Card, at: usize, v: u32) {
     if at < 331773 {
-        field::put_u32(Order::Little, img, at, v);
+        v.put(Order::Little, img, at);
     }
 }
 
@@ -144,29 +133,25 @@ fn say_refusal(rt: &impl Print, e: Refusal) -> io::Result<()> {
 
 // ---- the calls
 
-fn less(x: u64, y: u64) -> u64 {
-    if x < y { 0 } else { x - y }
-}
-
 // The walk after a call that made n stores.
 fn walked(w: Walk, n: u64, given: u64) -> Walk {
     Walk {
-        left: less(w.left, n),
-        made: std::num::wrapping_add_u64(w.made, n),
-        calls: std::num::wrapping_add_u64(w.calls, 1),
+        left: w.left.saturating_sub(n),
+        made: w.made.wrapping_add(n),
+        calls: w.calls.wrapping_add(1),
         given,
     }
 }
 
 fn give(rt: &impl Print, img: &mut Card, vol: Volume, size: u64, w: Walk) -> io::Result<Walk> {
     match balloc::blk_alloc_cut(img, vol, size, w.left) {
-        Given::Block(a, got, n, v) => {
+        Ok((a, got, n, _)) => {
             say_number(rt, b" given ", a.0)?;
             say_number(rt, b" of ", got)?;
             say_number(rt, b" by ", n)?;
             Ok(walked(w, n, a.0))
         }
-        Given::No(e) => {
+        Err(e) => {
             say_refusal(rt, e)?;
             Ok(walked(w, 0, w.given))
         }
@@ -182,12 +167,12 @@ fn back(
     w: Walk,
 ) -> io::Result<Walk> {
     match balloc::blk_free_cut(img, vol, FragNum(a), size, w.left) {
-        Freed::Made(n, v) => {
+        Ok((n, _)) => {
             say_number(rt, b" back ", a)?;
             say_number(rt, b" by ", n)?;
             Ok(walked(w, n, w.given))
         }
-        Freed::No(e) => {
+        Err(e) => {
             say_refusal(rt, e)?;
             Ok(walked(w, 0, w.given))
         }
@@ -195,19 +180,10 @@ fn back(
 }
 
 fn make(rt: &impl Print, img: &mut Card, vol: Volume, c: Call, w: Walk) -> io::Result<Walk> {
-    let act = c.act;
-    match act {
-        Act::Give => give(rt, img, vol, c.size, w),
-        Act::Back => back(rt, img, vol, c.at, c.size, w),
-        Act::BackGiven => back(
-            rt,
-            img,
-            vol,
-            std::num::wrapping_add_u64(w.given, c.at),
-            c.size,
-            w,
-        ),
-        Act::Nothing => Ok(w),
+    match c {
+        Call::Give(size) => give(rt, img, vol, size, w),
+        Call::Back(at, size) => back(rt, img, vol, at, size, w),
+        Call::BackGiven(f, size) => back(rt, img, vol, w.given.wrapping_add(f), size, w),
     }
 }
 
@@ -216,7 +192,7 @@ fn make_all(
     rt: &impl Print,
     img: &mut Card,
     vol: Volume,
-    calls: Calls,
+    calls: &[Call],
     k: u64,
 ) -> io::Result<Walk> {
     let mut w = Walk {
@@ -225,12 +201,10 @@ fn make_all(
         calls: 0,
         given: 0,
     };
-    let mut i: usize = 0;
-    while i < 6 {
+    for i in 0..calls.len() {
         if (i == 0) | (0 < w.left) {
             w = make(rt, img, vol, calls[i], w)?;
         }
-        i += 1;
     }
     Ok(w)
 }
@@ -250,23 +224,13 @@ fn map_bytes(ndblk: u32) -> usize {
     (ndblk as usize + 7) / 8
 }
 
-fn wide(n: u32) -> u64 {
-    n as u64
-}
-
-fn ones(b: u8) -> u64 {
-    wide(u32::count_ones(b as u32))
-}
-
 // The free fragments of a group, by its map's bytes.
 fn free_frags(img: &Card, at: usize) -> u64 {
     let map = map_at(img, at);
     let n = map_bytes(ndblk(img, at));
     let mut sum: u64 = 0;
-    let mut i: usize = 0;
-    while i < n {
-        sum = std::num::wrapping_add_u64(sum, ones(get8(img, place(map, i))));
-        i += 1;
+    for i in 0..n {
+        sum = sum.wrapping_add(get8(img, place(map, i)).count_ones() as u64);
     }
     sum
 }
@@ -289,13 +253,13 @@ fn noted(t: Tally, f: u32, frag: u32, free: bool) -> Tally {
             loose: t.loose,
         };
     }
-    let more = std::num::wrapping_add_u64(row, 1);
-    let loose = std::num::wrapping_add_u64(t.loose, 1);
+    let more = row.wrapping_add(1);
+    let loose = t.loose.wrapping_add(1);
     if more == frag as u64 {
         return Tally {
             row: more,
-            blocks: std::num::wrapping_add_u64(t.blocks, 1),
-            loose: less(loose, more),
+            blocks: t.blocks.wrapping_add(1),
+            loose: loose.saturating_sub(more),
         };
     }
     Tally {
@@ -315,10 +279,8 @@ fn counted(img: &Card, at: usize) -> Tally {
         blocks: 0,
         loose: 0,
     };
-    let mut f: u32 = 0;
-    while f < n {
+    for f in 0..n {
         t = noted(t, f, frag, is_free(img, map, f));
-        f += 1;
     }
     t
 }
@@ -330,7 +292,7 @@ fn group_true(img: &Card, at: usize, t: Tally) -> bool {
 }
 
 fn sum(a: u64, b: u64, c: u64) -> u64 {
-    std::num::wrapping_add_u64(std::num::wrapping_add_u64(a, b), c)
+    a.wrapping_add(b).wrapping_add(c)
 }
 
 fn totals_true(img: &Card, a: Tally, b: Tally, c: Tally) -> bool {
@@ -340,7 +302,7 @@ fn totals_true(img: &Card, a: Tally, b: Tally, c: Tally) -> bool {
 
 // Whether byte i is one of the n from `at`.
 fn within(i: usize, at: usize, n: usize) -> bool {
-    if i < at { false } else { i - at < n }
+    (at <= i) && (i - at < n)
 }
 
 // Whether byte i is of the map, or of the two counts, of the group record at `at`.
@@ -360,20 +322,17 @@ fn may_change(kept: &Card, i: usize) -> bool {
         | in_record(kept, LAST, i)
 }
 
-// Whether byte i differs and is none of these, as a number.
-fn wrong(kept: &Card, img: &Card, i: usize) -> u64 {
-    if get8(kept, i) == get8(img, i) {
-        return 0;
-    }
-    if may_change(kept, i) { 0 } else { 1 }
+// Whether byte i differs and is none of these.
+fn is_wrong(kept: &Card, img: &Card, i: usize) -> bool {
+    !(get8(kept, i) == get8(img, i)) && !may_change(kept, i)
 }
 
 fn wrong_bytes(kept: &Card, img: &Card) -> u64 {
     let mut n: u64 = 0;
-    let mut i: usize = 0;
-    while i < 331776 {
-        n = std::num::wrapping_add_u64(n, wrong(kept, img, i));
-        i += 1;
+    for i in 0..331776 {
+        if is_wrong(kept, img, i) {
+            n = n.wrapping_add(1);
+        }
     }
     n
 }
@@ -383,11 +342,11 @@ fn wrong_bytes(kept: &Card, img: &Card) -> u64 {
 fn tell_recount(rt: &impl Print, img: &mut Card, vol: Volume) -> io::Result<()> {
     say(rt, b"; recount")?;
     match balloc::recount(img, vol) {
-        Recounted::Totals(nbfree, nffree, v) => {
+        Ok((nbfree, nffree, _)) => {
             say_number(rt, b" nbfree ", nbfree)?;
             say_number(rt, b" nffree ", nffree)?;
         }
-        Recounted::No(e) => {
+        Err(e) => {
             say_refusal(rt, e)?;
         }
     }
@@ -415,10 +374,10 @@ fn tell_free(rt: &impl Print, img: &Card) -> io::Result<()> {
 }
 
 // The run with k stores on a copy of the card, and the recount. Answers the number of stores made.
-fn cut(rt: &impl Print, kept: &Card, vol: Volume, calls: Calls, k: u64) -> io::Result<u64> {
+fn cut(rt: &impl Print, kept: &Card, vol: Volume, calls: &[Call], k: u64) -> io::Result<u64> {
     let mut img = *kept;
     let w = make_all(rt, &mut img, vol, calls, k)?;
-    say_number(rt, b"; in call ", less(w.calls, 1))?;
+    say_number(rt, b"; in call ", w.calls.saturating_sub(1))?;
     tell_recount(rt, &mut img, vol)?;
     tell_free(rt, &img)?;
     tell_counts(rt, &img)?;
@@ -432,30 +391,28 @@ fn cuts(
     kept: &Card,
     vol: Volume,
     name: &[u8],
-    calls: Calls,
+    calls: &[Call],
     end: u64,
 ) -> io::Result<()> {
-    let mut k: u64 = 0;
-    while k < end {
+    for k in 0..end {
         say(rt, name)?;
         say_number(rt, b", cut ", k)?;
         say(rt, b":")?;
         cut(rt, kept, vol, calls, k)?;
-        k += 1;
     }
     Ok(())
 }
 
 // The whole run, and then each cut of it, the last after all its stores.
-fn run(rt: &impl Print, kept: &Card, name: &[u8], calls: Calls) -> io::Result<()> {
+fn run(rt: &impl Print, kept: &Card, name: &[u8], calls: &[Call]) -> io::Result<()> {
     say(rt, name)?;
     say(rt, b":")?;
     match sound::open(kept, true) {
-        Opened::Volume(vol) => {
+        Ok(vol) => {
             let n = cut(rt, kept, vol, calls, u64::MAX)?;
-            cuts(rt, kept, vol, name, calls, std::num::wrapping_add_u64(n, 1))?;
+            cuts(rt, kept, vol, name, calls, n.wrapping_add(1))?;
         }
-        Opened::No(e) => {
+        Err(e) => {
             say_refusal(rt, e)?;
             say(rt, b"\n")?;
         }
@@ -465,57 +422,15 @@ fn run(rt: &impl Print, kept: &Card, name: &[u8], calls: Calls) -> io::Result<()
 
 // ---- the runs
 
-fn gives(size: u64) -> Call {
-    Call {
-        act: Act::Give,
-        at: 0,
-        size,
-    }
-}
-
-fn backs(at: u64, size: u64) -> Call {
-    Call {
-        act: Act::Back,
-        at,
-        size,
-    }
-}
-
-// From fragment f of the block given last.
-fn backs_given(f: u64, size: u64) -> Call {
-    Call {
-        act: Act::BackGiven,
-        at: f,
-        size,
-    }
-}
-
-fn none() -> Call {
-    Call {
-        act: Act::Nothing,
-        at: 0,
-        size: 0,
-    }
-}
-
-// A run of two calls, and of four.
-fn two(a: Call, b: Call) -> Calls {
-    four(a, b, none(), none())
-}
-
-fn four(a: Call, b: Call, c: Call, d: Call) -> Calls {
-    [a, b, c, d, none(), none()]
-}
-
 // Whole blocks, whatever part of one is asked for.
 fn blocks(rt: &impl Print, card: &Card) -> io::Result<()> {
-    run(rt, card, b"give", two(gives(4096), none()))?;
-    run(rt, card, b"give two", two(gives(512), gives(3584)))?;
+    run(rt, card, b"give", &[Call::Give(4096)])?;
+    run(rt, card, b"give two", &[Call::Give(512), Call::Give(3584)])?;
     run(
         rt,
         card,
         b"give and back",
-        two(gives(4096), backs_given(0, 4096)),
+        &[Call::Give(4096), Call::BackGiven(0, 4096)],
     )
 }
 
@@ -525,23 +440,22 @@ fn fragments(rt: &impl Print, card: &Card) -> io::Result<()> {
         rt,
         card,
         b"back in parts",
-        four(
-            gives(4096),
-            backs_given(0, 1536),
-            backs_given(3, 2560),
-            none(),
-        ),
+        &[
+            Call::Give(4096),
+            Call::BackGiven(0, 1536),
+            Call::BackGiven(3, 2560),
+        ],
     )?;
     run(
         rt,
         card,
         b"fragments",
-        four(
-            backs(178, 1024),
-            backs(176, 1024),
-            backs(180, 512),
-            gives(512),
-        ),
+        &[
+            Call::Back(178, 1024),
+            Call::Back(176, 1024),
+            Call::Back(180, 512),
+            Call::Give(512),
+        ],
     )
 }
 
@@ -551,25 +465,25 @@ fn refusals(rt: &impl Print, card: &Card) -> io::Result<()> {
         rt,
         card,
         b"refusals",
-        [
-            gives(4096),
-            backs_given(4, 4096),
-            gives(100),
-            backs(160, 512),
-            backs(200, 512),
-            gives(4096),
+        &[
+            Call::Give(4096),
+            Call::BackGiven(4, 4096),
+            Call::Give(100),
+            Call::Back(160, 512),
+            Call::Back(200, 512),
+            Call::Give(4096),
         ],
     )?;
     run(
         rt,
         card,
         b"address 0",
-        four(
-            gives(4096),
-            backs(0, 4096),
-            backs(0, 0),
-            backs_given(7, 512),
-        ),
+        &[
+            Call::Give(4096),
+            Call::Back(0, 4096),
+            Call::Back(0, 0),
+            Call::BackGiven(7, 512),
+        ],
     )
 }
 
@@ -580,12 +494,12 @@ fn passed(rt: &impl Print, card: &mut Card) -> io::Result<()> {
         rt,
         card,
         b"group 0 passed",
-        four(
-            gives(4096),
-            backs_given(7, 512),
-            gives(4096),
-            backs(464, 512),
-        ),
+        &[
+            Call::Give(4096),
+            Call::BackGiven(7, 512),
+            Call::Give(4096),
+            Call::Back(464, 512),
+        ],
     )?;
     put32(card, SECOND + NBFREE, 0);
     put32(card, LAST + NBFREE, 4294967295);
@@ -593,13 +507,13 @@ fn passed(rt: &impl Print, card: &mut Card) -> io::Result<()> {
         rt,
         card,
         b"all passed",
-        [
-            backs(180, 512),
-            gives(4096),
-            backs(176, 2048),
-            gives(4096),
-            gives(4096),
-            backs_given(0, 512),
+        &[
+            Call::Back(180, 512),
+            Call::Give(4096),
+            Call::Back(176, 2048),
+            Call::Give(4096),
+            Call::Give(4096),
+            Call::BackGiven(0, 512),
         ],
     )
 }
@@ -621,13 +535,12 @@ fn one_group(rt: &(impl Files + Print)) -> io::Result<()> {
         rt,
         &card,
         b"frag 1",
-        [
-            gives(4096),
-            gives(4096),
-            gives(4096),
-            gives(4096),
-            backs_given(0, 4096),
-            none(),
+        &[
+            Call::Give(4096),
+            Call::Give(4096),
+            Call::Give(4096),
+            Call::Give(4096),
+            Call::BackGiven(0, 4096),
         ],
     )?;
     copy_in_map(rt, &mut card)
@@ -643,13 +556,13 @@ fn copy_in_map(rt: &impl Print, card: &mut Card) -> io::Result<()> {
         rt,
         card,
         b"magic in the map, back",
-        two(backs(25, 4096), backs(26, 4096)),
+        &[Call::Back(25, 4096), Call::Back(26, 4096)],
     )?;
     run(
         rt,
         card,
         b"magic in the map, give",
-        two(gives(4096), gives(4096)),
+        &[Call::Give(4096), Call::Give(4096)],
     )
 }
 

@@ -1,5 +1,6 @@
 -- The calls on one block in the words of what its walk shows: linking adds one record, unlinking takes the first of that name out,
 -- and a search by name is one of what is shown. From `Theorems`. Assumes nothing.
+use Rattle.std.specs.Prelude.{Option, Some, None, Result, Ok, Err}
 use mathlib.Core.Path.{◌≡◌, refl, sym, ap, ap₂, subst, ◌∙◌}
 use mathlib.Core.Bool.{Bool, true, false, cond, not, ◌&&◌}
 use mathlib.Core.List.{List, [], ◌∷◌, ◌++◌}
@@ -15,10 +16,6 @@ use Rattle.dirblock.specs.declared.Entry.{Entry}
 use Rattle.dirblock.specs.declared.Rec.{Rec}
 use Rattle.dirblock.specs.declared.Rec.TheVariants as Rec
 use Rattle.dirblock.specs.declared.Spot.{Spot}
-use Rattle.dirblock.specs.declared.Find.{Find}
-use Rattle.dirblock.specs.declared.Find.TheVariants as Find
-use Rattle.dirblock.specs.declared.Room.{Room}
-use Rattle.dirblock.specs.declared.Room.TheVariants as Room
 use Rattle.dirblock.specs.declared.Linked.{Linked}
 use Rattle.dirblock.specs.declared.Linked.TheVariants as Linked
 use Rattle.dirblock.specs.declared.Unlinked.{Unlinked}
@@ -35,22 +32,24 @@ use Rattle.dirblock.proofs.FoundLaws.{Leads, NoneOf, Prior, FoundAt, find-found,
 use Rattle.dirblock.proofs.LinkLaws.{first-there, unlink-first-told, unlink-later-told, unlink-absent, unlink-bad}
 use Rattle.dirblock.proofs.KeptLaws.{item, leads_on, leads-same}
 use Rattle.dirblock.proofs.Theorems.{shown_as, shown_snoc, first-shows, first-whole, Removed, later-removed, first-removed, Linkable, Added, link-added}
+use Rattle.refusal.specs.Refusal.{damage}
+use Rattle.refusal.specs.declared.Damage.{Damage}
 
 -- ---- linking
 
 -- a link that is done adds the record, and leaves every other as it was shown
 pub link_adds : (o : Order) (block now : List ℕ) (ino kind : ℕ) (name : List ℕ) → Bytes block → Linkable ino kind name
-    → link_in o block ino kind name ≡ (now, Linked.Done) → Added o block now (record { inr = ino; kind = kind; name = name })
+    → link_in o block ino kind name ≡ (now, Ok Linked.Done) → Added o block now (record { inr = ino; kind = kind; name = name })
 unfolding link_in
 link_adds o block now ino kind name b can q = go (room_in o block (length name)) refl q
   where
-    go : (k : Room) → room_in o block (length name) ≡ k → linking o block ino kind name k ≡ (now, Linked.Done) → Added o block now (record { inr = ino; kind = kind; name = name })
-    go (Room.At pos e) h q =
-        let s : link_at o block pos e ino kind name ≡ now = ap (λ (x : List ℕ × Linked). x.0) q in
+    go : (k : Result (Option (ℕ × Entry)) Damage) → room_in o block (length name) ≡ k → linking o block ino kind name k ≡ (now, Ok Linked.Done) → Added o block now (record { inr = ino; kind = kind; name = name })
+    go (Ok (Some (pos, e))) h q =
+        let s : link_at o block pos e ino kind name ≡ now = ap (λ (x : List ℕ × Result Linked Damage). x.0) q in
         subst (λ (x : List ℕ). Added o block x (record { inr = ino; kind = kind; name = name })) s
         (link-added o block ino kind name pos e b (room-found o block (length name) pos e h) can)
-    go Room.Full h q = absurd (let d : Linked.Full ≡ Linked.Done = ap (λ (x : List ℕ × Linked). x.1) q in let z : ◌≡◌ {A = ℕ} 0 1 = cc in let y : ⊥ = omega arith in y)
-    go Room.Bad h q = absurd (let d : Linked.Bad ≡ Linked.Done = ap (λ (x : List ℕ × Linked). x.1) q in let z : ◌≡◌ {A = ℕ} 0 1 = cc in let y : ⊥ = omega arith in y)
+    go (Ok None) h q = absurd (let d : ◌≡◌ {A = Result Linked Damage} (Ok Linked.Full) (Ok Linked.Done) = ap (λ (x : List ℕ × Result Linked Damage). x.1) q in let z : ◌≡◌ {A = ℕ} 0 1 = cc in let y : ⊥ = omega arith in y)
+    go (Err harm) h q = absurd (let d : ◌≡◌ {A = Result Linked Damage} (Err damage) (Ok Linked.Done) = ap (λ (x : List ℕ × Result Linked Damage). x.1) q in let z : ◌≡◌ {A = ℕ} 0 1 = cc in let y : ⊥ = omega arith in y)
 
 -- ---- a search by name, over what is shown
 
@@ -62,7 +61,7 @@ search_shown block name whiteouts prev [] (damaged at) = refl
 search_shown block name whiteouts prev (i ∷ is) s = go (named block name whiteouts i) (search_shown block name whiteouts i.pos is s)
   where
     go : (t : Bool) → looked_of (search_among (named block name whiteouts) i.pos is s) ≡ look_among (wanted name whiteouts) (shown_all block is) (health_of s)
-        → looked_of (pick_find t (Find.At (record { pos = i.pos; prev = prev; entry = i.entry })) (search_among (named block name whiteouts) i.pos is s))
+        → looked_of (pick_find t (Ok (Some (record { pos = i.pos; prev = prev; entry = i.entry }))) (search_among (named block name whiteouts) i.pos is s))
         ≡ pick_looked t (inode i.entry.inr) (look_among (wanted name whiteouts) (shown_all block is) (health_of s))
     go true f = refl
     go false f = f
@@ -104,8 +103,8 @@ new-wanted ino kind name false e = rw e (same-name name name refl)
 -- linking a name that was absent, then finding it, gives the inode
 pub link_then_find : (o : Order) (block now : List ℕ) (ino kind : ℕ) (name : List ℕ) (whiteouts : Bool) → Bytes block → Linkable ino kind name
     → eqb kind 14 ≡ false
-    → find_in o block name whiteouts ≡ Find.Absent
-    → link_in o block ino kind name ≡ (now, Linked.Done)
+    → find_in o block name whiteouts ≡ Ok None
+    → link_in o block ino kind name ≡ (now, Ok Linked.Done)
     → looked_of (find_in o now name whiteouts) ≡ inode ino
 link_then_find o block now ino kind name whiteouts b can k f q =
     let a = link_adds o block now ino kind name b can q in
@@ -123,7 +122,7 @@ unfolding shown_all named wanted listed findable
 none_items block name whiteouts [] n = tt {0}
 none_items block name whiteouts (x ∷ xs) (f, n) = (f, none_items block name whiteouts xs n)
 
-done-of : (o : Order) (block : List ℕ) (prev : ℕ) (e : Entry) → Unlinked.Done e.inr ≡ (unlink_later o block prev e).1
+done-of : (o : Order) (block : List ℕ) (prev : ℕ) (e : Entry) → Ok (Unlinked.Done e.inr) ≡ (unlink_later o block prev e).1
 unfolding unlink_later
 done-of o block prev e = refl
 
@@ -145,28 +144,28 @@ unfolding named
 found-name block name s e = name-same (name_at block s.pos s.entry) name (both_true (findable s.entry) (same_name (name_at block s.pos s.entry) name) e)
 
 module _ (o : Order) (block now name : List ℕ) (ino : ℕ) (b : Bytes block) (l : length block ≡ 512) where
-  first_taken : (e : Entry) → rec_at o block 0 ≡ Rec.Used e → name_at block 0 e ≡ name → unlink_first o block e ≡ (now, Unlinked.Done ino) → Taken o block now name ino
+  first_taken : (e : Entry) → rec_at o block 0 ≡ Rec.Used e → name_at block 0 e ≡ name → unlink_first o block e ≡ (now, Ok (Unlinked.Done ino)) → Taken o block now name ino
   unfolding unlink_first
   first_taken e h n q = go (rec_at o block e.reclen) refl q
     where
-      go : (k : Rec) → rec_at o block e.reclen ≡ k → by_next o block e k ≡ (now, Unlinked.Done ino) → Taken o block now name ino
+      go : (k : Rec) → rec_at o block e.reclen ≡ k → by_next o block e k ≡ (now, Ok (Unlinked.Done ino)) → Taken o block now name ino
       go (Rec.Used next) g q =
-          let a = ap (λ (x : List ℕ × Unlinked). x.0) q in
-          let d : Unlinked.Done e.inr ≡ Unlinked.Done ino = ap (λ (x : List ℕ × Unlinked). x.1) q in
+          let a = ap (λ (x : List ℕ × Result Unlinked Damage). x.0) q in
+          let d : ◌≡◌ {A = Result Unlinked Damage} (Ok (Unlinked.Done e.inr)) (Ok (Unlinked.Done ino)) = ap (λ (x : List ℕ × Result Unlinked Damage). x.1) q in
           let i : e.inr ≡ ino = cc in
           record { before = []; gone = shown_as e (name_at block 0 e); inode = i; called = n; first = tt {0}; removed = subst (λ (x : List ℕ). Removed o block x [] (shown_as e (name_at block 0 e))) a (first-removed o block e next b l h g) }
       go (Rec.Unused next) g q = absurd (never-unused o block e.reclen next g)
-      go Rec.End g q = absurd (let d : Unlinked.Alone e.inr ≡ Unlinked.Done ino = ap (λ (x : List ℕ × Unlinked). x.1) q in let z : ◌≡◌ {A = ℕ} 0 1 = cc in let y : ⊥ = omega arith in y)
-      go Rec.Bad g q = absurd (let d : Unlinked.Bad ≡ Unlinked.Done ino = ap (λ (x : List ℕ × Unlinked). x.1) q in let z : ◌≡◌ {A = ℕ} 0 1 = cc in let y : ⊥ = omega arith in y)
+      go Rec.End g q = absurd (let d : ◌≡◌ {A = Result Unlinked Damage} (Ok (Unlinked.Alone e.inr)) (Ok (Unlinked.Done ino)) = ap (λ (x : List ℕ × Result Unlinked Damage). x.1) q in let z : ◌≡◌ {A = ℕ} 0 1 = cc in let y : ⊥ = omega arith in y)
+      go Rec.Bad g q = absurd (let d : ◌≡◌ {A = Result Unlinked Damage} (Err damage) (Ok (Unlinked.Done ino)) = ap (λ (x : List ℕ × Result Unlinked Damage). x.1) q in let z : ◌≡◌ {A = ℕ} 0 1 = cc in let y : ⊥ = omega arith in y)
 
   later-taken : (s : Spot) → FoundAt (named block name true) o block 0 0 s → Prior o block 0 s.prev s.pos
-      → unlink_later o block s.prev s.entry ≡ (now, Unlinked.Done ino) → Taken o block now name ino
+      → unlink_later o block s.prev s.entry ≡ (now, Ok (Unlinked.Done ino)) → Taken o block now name ino
   unfolding unlink_later
   later-taken s f r q =
       let p = r.entry in
       let d = held o block s.prev p r.there in
       let there : rec_at o block (s.prev + p.reclen) ≡ Rec.Used s.entry = ap (rec_at o block) r.next ∙ f.there in
-      let u : Unlinked.Done s.entry.inr ≡ Unlinked.Done ino = ap (λ (x : List ℕ × Unlinked). x.1) q in
+      let u : ◌≡◌ {A = Result Unlinked Damage} (Ok (Unlinked.Done s.entry.inr)) (Ok (Unlinked.Done ino)) = ap (λ (x : List ℕ × Result Unlinked Damage). x.1) q in
       let i : s.entry.inr ≡ ino = cc in
       let same : f.passed ≡ r.passed ++ (item s.prev p ∷ []) =
       leads-same o block f.leads (subst (Leads o block 0 (r.passed ++ (item s.prev p ∷ []))) r.next (leads_on o block p r.leads r.there)) in
@@ -180,33 +179,33 @@ module _ (o : Order) (block now name : List ℕ) (ino : ℕ) (b : Bytes block) (
             (none_items block name true (r.passed ++ (item s.prev p ∷ [])) (subst (NoneOf (named block name true)) same f.none));
         removed =
             subst (λ (x : List ℕ). Removed o block x (shown_all block r.passed ++ (shown_as p (name_at block s.prev p) ∷ [])) (shown_as s.entry (name_at block (s.prev + p.reclen) s.entry)))
-            (ap (λ (x : Entry). put_rec o s.prev (absorb s.entry.reclen x) (name_at block s.prev x) block) d.same ∙ ap (λ (x : List ℕ × Unlinked). x.0) q)
+            (ap (λ (x : Entry). put_rec o s.prev (absorb s.entry.reclen x) (name_at block s.prev x) block) d.same ∙ ap (λ (x : List ℕ × Result Unlinked Damage). x.0) q)
             (later-removed o block r.passed s.prev p s.entry b l r.leads r.there there);
       }
 
   -- an unlinking that is done takes the first record of that name out, and leaves every other
-  pub unlink-takes : unlink_in o block name ≡ (now, Unlinked.Done ino) → Taken o block now name ino
+  pub unlink-takes : unlink_in o block name ≡ (now, Ok (Unlinked.Done ino)) → Taken o block now name ino
   unlink-takes q = go (find_in o block name true) refl
     where
-      at_first : (s : Spot) → find_in o block name true ≡ Find.At s → s.pos ≡ 0 → Taken o block now name ino
+      at_first : (s : Spot) → find_in o block name true ≡ Ok (Some s) → s.pos ≡ 0 → Taken o block now name ino
       at_first s h z =
           first_taken s.entry (first-there o block name s h z)
           (ap (λ (k : ℕ). name_at block k s.entry) (sym z) ∙ found-name block name s (find-found o block name true s h).holds)
           (sym (unlink-first-told o block name s h z) ∙ q)
 
-      at-later : (s : Spot) → find_in o block name true ≡ Find.At s → (s.pos ≡ 0 → ⊥)
+      at-later : (s : Spot) → find_in o block name true ≡ Ok (Some s) → (s.pos ≡ 0 → ⊥)
           → ((s.pos ≡ 0) × (s.prev ≡ 0)) ⊎ Prior o block 0 s.prev s.pos → Taken o block now name ino
       at-later s h z (inl (a, c)) = absurd (z a)
       at-later s h z (inr r) = later-taken s (find-found o block name true s h) r (sym (unlink-later-told o block name s h z) ∙ q)
 
-      split : (s : Spot) → find_in o block name true ≡ Find.At s → Dec (0 < s.pos) → Taken o block now name ino
+      split : (s : Spot) → find_in o block name true ≡ Ok (Some s) → Dec (0 < s.pos) → Taken o block now name ino
       split s h (yes m) = at-later s h (λ z. omega arith) (find-found o block name true s h).before
       split s h (no m) = at_first s h (omega arith)
 
-      go : (k : Find) → find_in o block name true ≡ k → Taken o block now name ino
-      go (Find.At s) h = split s h (dec_lt 0 s.pos)
-      go Find.Absent h = absurd (let d : Unlinked.Absent ≡ Unlinked.Done ino = ap (λ (x : List ℕ × Unlinked). x.1) (unlink-absent o block name h ∙ q) in let z : ◌≡◌ {A = ℕ} 0 1 = cc in let y : ⊥ = omega arith in y)
-      go Find.Bad h = absurd (let d : Unlinked.Bad ≡ Unlinked.Done ino = ap (λ (x : List ℕ × Unlinked). x.1) (unlink-bad o block name h ∙ q) in let z : ◌≡◌ {A = ℕ} 0 1 = cc in let y : ⊥ = omega arith in y)
+      go : (k : Result (Option Spot) Damage) → find_in o block name true ≡ k → Taken o block now name ino
+      go (Ok (Some s)) h = split s h (dec_lt 0 s.pos)
+      go (Ok None) h = absurd (let d : ◌≡◌ {A = Result Unlinked Damage} (Ok Unlinked.Absent) (Ok (Unlinked.Done ino)) = ap (λ (x : List ℕ × Result Unlinked Damage). x.1) (unlink-absent o block name h ∙ q) in let z : ◌≡◌ {A = ℕ} 0 1 = cc in let y : ⊥ = omega arith in y)
+      go (Err harm) h = absurd (let d : ◌≡◌ {A = Result Unlinked Damage} (Err damage) (Ok (Unlinked.Done ino)) = ap (λ (x : List ℕ × Result Unlinked Damage). x.1) (unlink-bad o block name h ∙ q) in let z : ◌≡◌ {A = ℕ} 0 1 = cc in let y : ⊥ = omega arith in y)
 
 -- with whiteouts passed over fewer are asked for
 fewer : (a b : Bool) → b ≡ false → a && b ≡ false
@@ -236,18 +235,18 @@ pub record Only (o : Order) (block name : List ℕ) (ino : ℕ) : Type 0 where
   pub ends : health o block ≡ whole
 
 module _ (o : Order) (block now name : List ℕ) (ino : ℕ) where
-  alone-first : (e : Entry) → rec_at o block 0 ≡ Rec.Used e → name_at block 0 e ≡ name → unlink_first o block e ≡ (now, Unlinked.Alone ino) → Only o block name ino
+  alone-first : (e : Entry) → rec_at o block 0 ≡ Rec.Used e → name_at block 0 e ≡ name → unlink_first o block e ≡ (now, Ok (Unlinked.Alone ino)) → Only o block name ino
   unfolding unlink_first
   alone-first e h n q = go (rec_at o block e.reclen) refl q
     where
-      not_done : (x : ℕ) (b : List ℕ) → ◌≡◌ {A = List ℕ × Unlinked} (b, Unlinked.Done x) (now, Unlinked.Alone ino) → ⊥
-      not_done x b q = let d : Unlinked.Done x ≡ Unlinked.Alone ino = ap (λ (y : List ℕ × Unlinked). y.1) q in let z : ◌≡◌ {A = ℕ} 0 1 = cc in omega arith
+      not_done : (x : ℕ) (b : List ℕ) → ◌≡◌ {A = List ℕ × (Result Unlinked Damage)} (b, Ok (Unlinked.Done x)) (now, Ok (Unlinked.Alone ino)) → ⊥
+      not_done x b q = let d : ◌≡◌ {A = Result Unlinked Damage} (Ok (Unlinked.Done x)) (Ok (Unlinked.Alone ino)) = ap (λ (y : List ℕ × Result Unlinked Damage). y.1) q in let z : ◌≡◌ {A = ℕ} 0 1 = cc in omega arith
 
-      go : (k : Rec) → rec_at o block e.reclen ≡ k → by_next o block e k ≡ (now, Unlinked.Alone ino) → Only o block name ino
+      go : (k : Rec) → rec_at o block e.reclen ≡ k → by_next o block e k ≡ (now, Ok (Unlinked.Alone ino)) → Only o block name ino
       go (Rec.Used next) g q = absurd (not_done e.inr _ q)
       go (Rec.Unused next) g q = absurd (never-unused o block e.reclen next g)
       go Rec.End g q =
-          let d : Unlinked.Alone e.inr ≡ Unlinked.Alone ino = ap (λ (x : List ℕ × Unlinked). x.1) q in
+          let d : ◌≡◌ {A = Result Unlinked Damage} (Ok (Unlinked.Alone e.inr)) (Ok (Unlinked.Alone ino)) = ap (λ (x : List ℕ × Result Unlinked Damage). x.1) q in
           let i : e.inr ≡ ino = cc in
           record {
             gone = shown_as e (name_at block 0 e);
@@ -256,15 +255,15 @@ module _ (o : Order) (block now name : List ℕ) (ino : ℕ) where
             shown = first-shows o block e h g;
             ends = first-whole o block e h g;
           }
-      go Rec.Bad g q = absurd (let d : Unlinked.Bad ≡ Unlinked.Alone ino = ap (λ (x : List ℕ × Unlinked). x.1) q in let z : ◌≡◌ {A = ℕ} 0 1 = cc in let y : ⊥ = omega arith in y)
+      go Rec.Bad g q = absurd (let d : ◌≡◌ {A = Result Unlinked Damage} (Err damage) (Ok (Unlinked.Alone ino)) = ap (λ (x : List ℕ × Result Unlinked Damage). x.1) q in let z : ◌≡◌ {A = ℕ} 0 1 = cc in let y : ⊥ = omega arith in y)
 
-  pub unlink-alone : unlink_in o block name ≡ (now, Unlinked.Alone ino) → Only o block name ino
+  pub unlink-alone : unlink_in o block name ≡ (now, Ok (Unlinked.Alone ino)) → Only o block name ino
   unlink-alone q = go (find_in o block name true) refl
     where
-      later : (s : Spot) → unlink_later o block s.prev s.entry ≡ (now, Unlinked.Alone ino) → ⊥
-      later s q = let d : Unlinked.Done s.entry.inr ≡ Unlinked.Alone ino = done-of o block s.prev s.entry ∙ ap (λ (y : List ℕ × Unlinked). y.1) q in let z : ◌≡◌ {A = ℕ} 0 1 = cc in omega arith
+      later : (s : Spot) → unlink_later o block s.prev s.entry ≡ (now, Ok (Unlinked.Alone ino)) → ⊥
+      later s q = let d : ◌≡◌ {A = Result Unlinked Damage} (Ok (Unlinked.Done s.entry.inr)) (Ok (Unlinked.Alone ino)) = done-of o block s.prev s.entry ∙ ap (λ (y : List ℕ × Result Unlinked Damage). y.1) q in let z : ◌≡◌ {A = ℕ} 0 1 = cc in omega arith
 
-      split : (s : Spot) → find_in o block name true ≡ Find.At s → Dec (0 < s.pos) → Only o block name ino
+      split : (s : Spot) → find_in o block name true ≡ Ok (Some s) → Dec (0 < s.pos) → Only o block name ino
       split s h (yes m) = absurd (later s (sym (unlink-later-told o block name s h (λ z. omega arith)) ∙ q))
       split s h (no m) =
           let z : s.pos ≡ 0 = omega arith in
@@ -272,7 +271,7 @@ module _ (o : Order) (block now name : List ℕ) (ino : ℕ) where
           (ap (λ (k : ℕ). name_at block k s.entry) (sym z) ∙ found-name block name s (find-found o block name true s h).holds)
           (sym (unlink-first-told o block name s h z) ∙ q)
 
-      go : (k : Find) → find_in o block name true ≡ k → Only o block name ino
-      go (Find.At s) h = split s h (dec_lt 0 s.pos)
-      go Find.Absent h = absurd (let d : Unlinked.Absent ≡ Unlinked.Alone ino = ap (λ (x : List ℕ × Unlinked). x.1) (unlink-absent o block name h ∙ q) in let z : ◌≡◌ {A = ℕ} 0 1 = cc in let y : ⊥ = omega arith in y)
-      go Find.Bad h = absurd (let d : Unlinked.Bad ≡ Unlinked.Alone ino = ap (λ (x : List ℕ × Unlinked). x.1) (unlink-bad o block name h ∙ q) in let z : ◌≡◌ {A = ℕ} 0 1 = cc in let y : ⊥ = omega arith in y)
+      go : (k : Result (Option Spot) Damage) → find_in o block name true ≡ k → Only o block name ino
+      go (Ok (Some s)) h = split s h (dec_lt 0 s.pos)
+      go (Ok None) h = absurd (let d : ◌≡◌ {A = Result Unlinked Damage} (Ok Unlinked.Absent) (Ok (Unlinked.Alone ino)) = ap (λ (x : List ℕ × Result Unlinked Damage). x.1) (unlink-absent o block name h ∙ q) in let z : ◌≡◌ {A = ℕ} 0 1 = cc in let y : ⊥ = omega arith in y)
+      go (Err harm) h = absurd (let d : ◌≡◌ {A = Result Unlinked Damage} (Err damage) (Ok (Unlinked.Alone ino)) = ap (λ (x : List ℕ × Result Unlinked Damage). x.1) (unlink-bad o block name h ∙ q) in let z : ◌≡◌ {A = ℕ} 0 1 = cc in let y : ⊥ = omega arith in y)

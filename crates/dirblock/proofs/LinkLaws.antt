@@ -1,4 +1,5 @@
 -- The laws of `specs/Link.antt`: what a record cut down or lengthened has, and that what is written fits. Assumes nothing.
+use Rattle.std.specs.Prelude.{Some, None, Ok, Err}
 use mathlib.Core.Path.{◌≡◌, refl, sym, ap, ◌∙◌}
 use mathlib.Core.List.{List}
 use mathlib.Core.Bool.{true}
@@ -14,8 +15,6 @@ use Rattle.field.proofs.Laws.{length-part, part-put}
 use Rattle.dirblock.specs.declared.Entry.{Entry}
 use Rattle.dirblock.specs.declared.Rec.TheVariants.{Used, End, Bad}
 use Rattle.dirblock.specs.declared.Spot.{Spot}
-use Rattle.dirblock.specs.declared.Find.TheVariants as Find
-use Rattle.dirblock.specs.declared.Room.TheVariants as Room
 use Rattle.dirblock.specs.declared.Linked.{Linked}
 use Rattle.dirblock.specs.declared.Linked.TheVariants as Linked
 use Rattle.dirblock.specs.declared.Unlinked.{Unlinked}
@@ -26,6 +25,7 @@ use Rattle.dirblock.specs.Write.{put_rec, Fits}
 use Rattle.dirblock.specs.Link.{link_at, link_in, unlink_later, unlink_first, unlink_at, unlink_in, Behind}
 use Rattle.dirblock.proofs.RecordLaws.{held, smallest-low, new-low}
 use Rattle.dirblock.proofs.FoundLaws.{Prior, FoundAt, find-found}
+use Rattle.refusal.specs.Refusal.{damage}
 
 pub shrunk-is : (e : Entry) (n : ℕ) → n ≡ smallest_read e.namelen → record { inr = e.inr; reclen = n; kind = e.kind; namelen = e.namelen } ≡ shrunk e
 unfolding shrunk
@@ -72,16 +72,16 @@ module _ (o : Order) (block : List ℕ) (ino kind : ℕ) (name : List ℕ) where
   unfolding link_at shrunk name_at
   link-told pos e old rest mid out qo qr qm q = rw (q, qm, qr, qo)
 
-  pub link-room : (pos : ℕ) (e : Entry) (out : List ℕ) → room_in o block (length name) ≡ Room.At pos e → out ≡ link_at o block pos e ino kind name
-      → (out, Linked.Done) ≡ link_in o block ino kind name
+  pub link-room : (pos : ℕ) (e : Entry) (out : List ℕ) → room_in o block (length name) ≡ Ok (Some (pos, e)) → out ≡ link_at o block pos e ino kind name
+      → (out, Ok Linked.Done) ≡ link_in o block ino kind name
   unfolding link_in
   link-room pos e out h q = rw (h, q)
 
-  pub link-full : room_in o block (length name) ≡ Room.Full → (block, Linked.Full) ≡ link_in o block ino kind name
+  pub link-full : room_in o block (length name) ≡ Ok None → (block, Ok Linked.Full) ≡ link_in o block ino kind name
   unfolding link_in
   link-full h = rw h
 
-  pub link-bad : room_in o block (length name) ≡ Room.Bad → (block, Linked.Bad) ≡ link_in o block ino kind name
+  pub link-bad : room_in o block (length name) ≡ Err damage → (block, Err damage) ≡ link_in o block ino kind name
   unfolding link_in
   link-bad h = rw h
 
@@ -96,7 +96,7 @@ module _ (o : Order) (block : List ℕ) (prev : ℕ) (e p : Entry) (q : p ≡ en
   later-fits n r l a = rw (a, q, l) (record { name = omega (arith, b.name); inside = omega (arith, b.ends) })
 
 pub later_told : (o : Order) (block : List ℕ) (prev : ℕ) (e p r : Entry) (out : List ℕ) → p ≡ entry_at o prev block → r ≡ absorb e.reclen p
-    → out ≡ put_rec o prev r (name_at block prev r) block → (out, Unlinked.Done e.inr) ≡ unlink_later o block prev e
+    → out ≡ put_rec o prev r (name_at block prev r) block → (out, Ok (Unlinked.Done e.inr)) ≡ unlink_later o block prev e
 unfolding unlink_later absorb name_at
 later_told o block prev e p r out q a d = rw (d, a, q)
 
@@ -124,23 +124,23 @@ module _ (o : Order) (block : List ℕ) (e next : Entry) (h : rec_at o block e.r
       rw (a, l) (record { name = omega (arith, d.least); inside = omega (arith, d.inside) }, omega (arith, d.least, d.inside))
 
   pub first-told : (r : Entry) (out : List ℕ) → r ≡ absorb e.reclen next → out ≡ put_rec o 0 r (name_at block e.reclen r) block
-      → (out, Unlinked.Done e.inr) ≡ unlink_first o block e
+      → (out, Ok (Unlinked.Done e.inr)) ≡ unlink_first o block e
   unfolding unlink_first absorb name_at
   first-told r out a d = rw (h, d, a)
 
 module _ (o : Order) (block : List ℕ) (e : Entry) where
-  pub first_alone : rec_at o block e.reclen ≡ End → (block, Unlinked.Alone e.inr) ≡ unlink_first o block e
+  pub first_alone : rec_at o block e.reclen ≡ End → (block, Ok (Unlinked.Alone e.inr)) ≡ unlink_first o block e
   unfolding unlink_first
   first_alone h = rw h
 
-  pub first-bad : rec_at o block e.reclen ≡ Bad → (block, Unlinked.Bad) ≡ unlink_first o block e
+  pub first-bad : rec_at o block e.reclen ≡ Bad → (block, Err damage) ≡ unlink_first o block e
   unfolding unlink_first
   first-bad h = rw h
 
 -- ---- unlinking by name
 
 module _ (o : Order) (block name : List ℕ) where
-  module _ (s : Spot) (h : find_in o block name true ≡ Find.At s) where
+  module _ (s : Spot) (h : find_in o block name true ≡ Ok (Some s)) where
     pub first-there : s.pos ≡ 0 → rec_at o block 0 ≡ Used s.entry
     first-there z = ap (rec_at o block) (sym z) ∙ (find-found o block name true s h).there
 
@@ -165,10 +165,10 @@ module _ (o : Order) (block name : List ℕ) where
     unfolding unlink_in unlink_at
     unlink-later-told z = rw (h, ne_eqb s.pos 0 z)
 
-  pub unlink-absent : find_in o block name true ≡ Find.Absent → (block, Unlinked.Absent) ≡ unlink_in o block name
+  pub unlink-absent : find_in o block name true ≡ Ok None → (block, Ok Unlinked.Absent) ≡ unlink_in o block name
   unfolding unlink_in
   unlink-absent h = rw h
 
-  pub unlink-bad : find_in o block name true ≡ Find.Bad → (block, Unlinked.Bad) ≡ unlink_in o block name
+  pub unlink-bad : find_in o block name true ≡ Err damage → (block, Err damage) ≡ unlink_in o block name
   unfolding unlink_in
   unlink-bad h = rw h

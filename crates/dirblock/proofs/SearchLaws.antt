@@ -1,4 +1,5 @@
 -- The laws of `specs/Search.antt`: a search hits, passes on or stops. Assumes nothing.
+use Rattle.std.specs.Prelude.{Some, None, Ok, Err}
 use mathlib.Core.Path.{◌≡◌, refl, sym, ap, ◌∙◌}
 use mathlib.Core.Bool.{Bool, true, false, ◌&&◌}
 use mathlib.Core.List.{List, [], ◌∷◌}
@@ -12,19 +13,17 @@ use Rattle.field.specs.Field.{part}
 use Rattle.field.proofs.Laws.{length-part}
 use Rattle.dirblock.specs.declared.Entry.{Entry}
 use Rattle.dirblock.specs.declared.Rec.TheVariants.{Used, End, Bad}
-use Rattle.dirblock.specs.declared.Find.{Find}
-use Rattle.dirblock.specs.declared.Find.TheVariants as Find
-use Rattle.dirblock.specs.declared.Room.TheVariants as Room
 use Rattle.dirblock.specs.Record.{rec_at, name_at, slack, smallest_new}
 use Rattle.dirblock.specs.Walk.{Item, Stop, ended, damaged, walk_from}
 use Rattle.dirblock.specs.Search.{pick_find, search_among, search_from, same_name, named, find_in, roomy, room_of, room_in}
 use Rattle.dirblock.proofs.WalkLaws.{walk-used, walk_end, walk-bad}
+use Rattle.refusal.specs.Refusal.{damage}
 
 -- ---- one turn of a search
 
 module _ (p : Item → Bool) (o : Order) (block : List ℕ) (prev pos : ℕ) where
   pub search-hit : (e : Entry) → rec_at o block pos ≡ Used e → p (record { pos = pos; entry = e }) ≡ true
-      → search_from p o block prev pos ≡ Find.At (record { pos = pos; prev = prev; entry = e })
+      → search_from p o block prev pos ≡ Ok (Some (record { pos = pos; prev = prev; entry = e }))
   unfolding search_from search_among
   search-hit e h t = rw (walk-used o block pos e h, t)
 
@@ -33,11 +32,11 @@ module _ (p : Item → Bool) (o : Order) (block : List ℕ) (prev pos : ℕ) whe
   unfolding search_from search_among
   search-pass e h t = rw (walk-used o block pos e h, t)
 
-  pub search-end : rec_at o block pos ≡ End → search_from p o block prev pos ≡ Find.Absent
+  pub search-end : rec_at o block pos ≡ End → search_from p o block prev pos ≡ Ok None
   unfolding search_from search_among
   search-end h = rw (walk_end o block pos h)
 
-  pub search-bad : rec_at o block pos ≡ Bad → search_from p o block prev pos ≡ Find.Bad
+  pub search-bad : rec_at o block pos ≡ Bad → search_from p o block prev pos ≡ Err damage
   unfolding search_from search_among
   search-bad h = rw (walk-bad o block pos h)
 
@@ -86,7 +85,7 @@ room-among p a b [] (ended at) = refl
 room-among p a b [] (damaged at) = refl
 room-among p a b (i ∷ is) s = go (p i)
   where
-    go : (t : Bool) → room_of (pick_find t (Find.At (record { pos = i.pos; prev = a; entry = i.entry })) (search_among p i.pos is s)) ≡ room_of (pick_find t (Find.At (record { pos = i.pos; prev = b; entry = i.entry })) (search_among p i.pos is s))
+    go : (t : Bool) → room_of (pick_find t (Ok (Some (record { pos = i.pos; prev = a; entry = i.entry }))) (search_among p i.pos is s)) ≡ room_of (pick_find t (Ok (Some (record { pos = i.pos; prev = b; entry = i.entry }))) (search_among p i.pos is s))
     go true = refl
     go false = refl
 
@@ -122,7 +121,7 @@ module _ (block name : List ℕ) (pos : ℕ) (e : Entry) where
 -- ---- one turn of the search for room
 
 module _ (n : ℕ) (o : Order) (block : List ℕ) (pos : ℕ) where
-  pub room-hit : (e : Entry) → rec_at o block pos ≡ Used e → smallest_new n ≤ slack e → room_of (search_from (roomy n) o block 0 pos) ≡ Room.At pos e
+  pub room-hit : (e : Entry) → rec_at o block pos ≡ Used e → smallest_new n ≤ slack e → room_of (search_from (roomy n) o block 0 pos) ≡ Ok (Some (pos, e))
   unfolding roomy
   room-hit e h t = rw (search-hit (roomy n) o block 0 pos e h (le-leb (smallest_new n) (slack e) t))
 
@@ -132,8 +131,8 @@ module _ (n : ℕ) (o : Order) (block : List ℕ) (pos : ℕ) where
   room-pass e h t =
       ap room_of (search-pass (roomy n) o block 0 pos e h (lt-leb (smallest_new n) (slack e) t)) ∙ room_prev (roomy n) o block pos 0 (pos + e.reclen)
 
-  pub room-end : rec_at o block pos ≡ End → room_of (search_from (roomy n) o block 0 pos) ≡ Room.Full
+  pub room-end : rec_at o block pos ≡ End → room_of (search_from (roomy n) o block 0 pos) ≡ Ok None
   room-end h = rw (search-end (roomy n) o block 0 pos h)
 
-  pub room-bad : rec_at o block pos ≡ Bad → room_of (search_from (roomy n) o block 0 pos) ≡ Room.Bad
+  pub room-bad : rec_at o block pos ≡ Bad → room_of (search_from (roomy n) o block 0 pos) ≡ Err damage
   room-bad h = rw (search-bad (roomy n) o block 0 pos h)

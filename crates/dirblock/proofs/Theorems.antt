@@ -12,8 +12,6 @@ use Rattle.field.specs.Field.{Bytes, Kept}
 use Rattle.field.proofs.Laws.{length-part}
 use Rattle.dirblock.specs.declared.Entry.{Entry}
 use Rattle.dirblock.specs.declared.Rec.TheVariants.{Used, End}
-use Rattle.dirblock.specs.declared.Find.TheVariants as Find
-use Rattle.dirblock.specs.declared.Room.TheVariants as Room
 use Rattle.dirblock.specs.Record.{smallest_read, kind_known, name_at, rec_at, slack, shrunk, absorb}
 use Rattle.dirblock.specs.Walk.{Item, Walk, walk_from}
 use Rattle.dirblock.specs.Write.{put_rec}

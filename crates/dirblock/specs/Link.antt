@@ -1,14 +1,10 @@
 -- A name linked into a block, and one unlinked from it: the block left and the answer. Assumes nothing: these are definitions.
-use Rattle.std.specs.Prelude.{Bool, true, false, List, ℕ, ◌+◌, ◌≤◌, length, eqb}
+use Rattle.std.specs.Prelude.{Bool, true, false, List, ℕ, ◌+◌, ◌≤◌, length, eqb, Option, Some, None, Result, Ok, Err}
 use Rattle.field.specs.declared.Order.{Order}
 use Rattle.dirblock.specs.declared.Entry.{Entry}
 use Rattle.dirblock.specs.declared.Rec.{Rec}
 use Rattle.dirblock.specs.declared.Rec.TheVariants as Rec
 use Rattle.dirblock.specs.declared.Spot.{Spot}
-use Rattle.dirblock.specs.declared.Find.{Find}
-use Rattle.dirblock.specs.declared.Find.TheVariants as Find
-use Rattle.dirblock.specs.declared.Room.{Room}
-use Rattle.dirblock.specs.declared.Room.TheVariants as Room
 use Rattle.dirblock.specs.declared.Linked.{Linked}
 use Rattle.dirblock.specs.declared.Linked.TheVariants as Linked
 use Rattle.dirblock.specs.declared.Unlinked.{Unlinked}
@@ -16,6 +12,8 @@ use Rattle.dirblock.specs.declared.Unlinked.TheVariants as Unlinked
 use Rattle.dirblock.specs.Record.{smallest_read, entry_at, name_at, rec_at, slack, shrunk, absorb}
 use Rattle.dirblock.specs.Search.{find_in, room_in}
 use Rattle.dirblock.specs.Write.{put_rec}
+use Rattle.refusal.specs.Refusal.{damage}
+use Rattle.refusal.specs.declared.Damage.{Damage}
 
 -- ---- linking
 
@@ -28,46 +26,46 @@ unfoldable pub link_at : Order → List ℕ → ℕ → Entry → ℕ → ℕ �
 link_at o block pos e inr kind name =
     put_rec o (pos + smallest_read e.namelen) (new_entry e inr kind name) name (put_rec o pos (shrunk e) (name_at block pos e) block)
 
-abbrev pub linking : Order → List ℕ → ℕ → ℕ → List ℕ → Room → List ℕ × Linked
-linking o block inr kind name (Room.At pos e) = (link_at o block pos e inr kind name, Linked.Done)
-linking o block inr kind name Room.Full = (block, Linked.Full)
-linking o block inr kind name Room.Bad = (block, Linked.Bad)
+abbrev pub linking : Order → List ℕ → ℕ → ℕ → List ℕ → Result (Option (ℕ × Entry)) Damage → List ℕ × Result Linked Damage
+linking o block inr kind name (Ok (Some (pos, e))) = (link_at o block pos e inr kind name, Ok Linked.Done)
+linking o block inr kind name (Ok None) = (block, Ok Linked.Full)
+linking o block inr kind name (Err harm) = (block, Err damage)
 
 -- into the first record with room
-unfoldable pub link_in : Order → List ℕ → ℕ → ℕ → List ℕ → List ℕ × Linked
+unfoldable pub link_in : Order → List ℕ → ℕ → ℕ → List ℕ → List ℕ × Result Linked Damage
 link_in o block inr kind name = linking o block inr kind name (room_in o block (length name))
 
 -- ---- unlinking
 
 -- a later record is absorbed by the one before it, at prev
-unfoldable pub unlink_later : Order → List ℕ → ℕ → Entry → List ℕ × Unlinked
+unfoldable pub unlink_later : Order → List ℕ → ℕ → Entry → List ℕ × Result Unlinked Damage
 unlink_later o block prev e =
-    (put_rec o prev (absorb e.reclen (entry_at o prev block)) (name_at block prev (entry_at o prev block)) block, Unlinked.Done e.inr)
+    (put_rec o prev (absorb e.reclen (entry_at o prev block)) (name_at block prev (entry_at o prev block)) block, Ok (Unlinked.Done e.inr))
 
 -- the first is absorbed by the next, which then stands first; alone, the block goes
-abbrev pub by_next : Order → List ℕ → Entry → Rec → List ℕ × Unlinked
-by_next o block e (Rec.Used next) = (put_rec o 0 (absorb e.reclen next) (name_at block e.reclen next) block, Unlinked.Done e.inr)
-by_next o block e (Rec.Unused next) = (put_rec o 0 (absorb e.reclen next) (name_at block e.reclen next) block, Unlinked.Done e.inr)
-by_next o block e Rec.End = (block, Unlinked.Alone e.inr)
-by_next o block e Rec.Bad = (block, Unlinked.Bad)
+abbrev pub by_next : Order → List ℕ → Entry → Rec → List ℕ × Result Unlinked Damage
+by_next o block e (Rec.Used next) = (put_rec o 0 (absorb e.reclen next) (name_at block e.reclen next) block, Ok (Unlinked.Done e.inr))
+by_next o block e (Rec.Unused next) = (put_rec o 0 (absorb e.reclen next) (name_at block e.reclen next) block, Ok (Unlinked.Done e.inr))
+by_next o block e Rec.End = (block, Ok (Unlinked.Alone e.inr))
+by_next o block e Rec.Bad = (block, Err damage)
 
-unfoldable pub unlink_first : Order → List ℕ → Entry → List ℕ × Unlinked
+unfoldable pub unlink_first : Order → List ℕ → Entry → List ℕ × Result Unlinked Damage
 unlink_first o block e = by_next o block e (rec_at o block e.reclen)
 
-abbrev pub pick_unlink : Bool → List ℕ × Unlinked → List ℕ × Unlinked → List ℕ × Unlinked
+abbrev pub pick_unlink : Bool → List ℕ × Result Unlinked Damage → List ℕ × Result Unlinked Damage → List ℕ × Result Unlinked Damage
 pick_unlink true a b = a
 pick_unlink false a b = b
 
-unfoldable pub unlink_at : Order → List ℕ → Spot → List ℕ × Unlinked
+unfoldable pub unlink_at : Order → List ℕ → Spot → List ℕ × Result Unlinked Damage
 unlink_at o block s = pick_unlink (eqb s.pos 0) (unlink_first o block s.entry) (unlink_later o block s.prev s.entry)
 
-abbrev pub unlinking : Order → List ℕ → Find → List ℕ × Unlinked
-unlinking o block (Find.At s) = unlink_at o block s
-unlinking o block Find.Absent = (block, Unlinked.Absent)
-unlinking o block Find.Bad = (block, Unlinked.Bad)
+abbrev pub unlinking : Order → List ℕ → Result (Option Spot) Damage → List ℕ × Result Unlinked Damage
+unlinking o block (Ok (Some s)) = unlink_at o block s
+unlinking o block (Ok None) = (block, Ok Unlinked.Absent)
+unlinking o block (Err harm) = (block, Err damage)
 
 -- the first record of that name, whiteouts too
-unfoldable pub unlink_in : Order → List ℕ → List ℕ → List ℕ × Unlinked
+unfoldable pub unlink_in : Order → List ℕ → List ℕ → List ℕ × Result Unlinked Damage
 unlink_in o block name = unlinking o block (find_in o block name true)
 
 -- ---- what the code is handed

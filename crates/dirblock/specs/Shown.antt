@@ -1,11 +1,12 @@
 -- What a walk shows of a block: each record's inode, type and name, in order. The theorems are about this. Assumes nothing.
-use Rattle.std.specs.Prelude.{◌≡◌, Bool, true, false, cond, not, ◌&&◌, List, [], ◌∷◌, ℕ, ◌+◌, eqb}
+use Rattle.std.specs.Prelude.{◌≡◌, Bool, true, false, cond, not, ◌&&◌, List, [], ◌∷◌, ℕ, ◌+◌, eqb, Option, Some, None, Result, Ok, Err}
 use Rattle.field.specs.declared.Order.{Order}
-use Rattle.dirblock.specs.declared.Find.{Find}
-use Rattle.dirblock.specs.declared.Find.TheVariants as Find
 use Rattle.dirblock.specs.Record.{name_at}
 use Rattle.dirblock.specs.Walk.{Item, Stop, ended, damaged, walk_from}
 use Rattle.dirblock.specs.Search.{same_name}
+use Rattle.dirblock.specs.declared.Spot.{Spot}
+use Rattle.refusal.specs.Refusal.{damage}
+use Rattle.refusal.specs.declared.Damage.{Damage}
 
 pub record Shown : Type 0 where
   pub inr : ℕ
@@ -51,10 +52,10 @@ pub data Looked : Type 0 where
   absent : Looked
   bad : Looked
 
-abbrev pub looked_of : Find → Looked
-looked_of (Find.At s) = inode s.entry.inr
-looked_of Find.Absent = absent
-looked_of Find.Bad = bad
+abbrev pub looked_of : Result (Option Spot) Damage → Looked
+looked_of (Ok (Some s)) = inode s.entry.inr
+looked_of (Ok None) = absent
+looked_of (Err harm) = bad
 
 -- a record of that name, and not a whiteout where these do not count
 unfoldable pub wanted : List ℕ → Bool → Shown → Bool

@@ -1,10 +1,10 @@
 // dir.rs, the part on blocks: one directory block and its records, walked by a cursor.
 #![tactic(auto)]
 
-ghost use Rattle.std.specs.Prelude.{◌≡◌, ◌+◌, ◌-◌, ◌≤◌, ◌<◌, length};
+ghost use Rattle.std.specs.Prelude.{◌≡◌, ◌+◌, ◌≤◌, ◌<◌, length};
 ghost use Rattle.dirblock.specs.Record.{smallest_read, smallest_new, kind_known, entry_at, name_at, judged, rec_at, slack};
 
-use field::Order;
+use field::{Number, Order};
 
 // dir.rs: Header, struct direct without its name, which is a part of the block.
 #[derive(Clone, Copy)]
@@ -32,27 +32,11 @@ pub struct Spot {
     pub entry: Entry,
 }
 
-#[derive(Clone, Copy)]
-pub enum Find {
-    At(Spot),
-    Absent,
-    Bad,
-}
-
-// A record with room for a new one, and its place.
-#[derive(Clone, Copy)]
-pub enum Room {
-    At(usize, Entry),
-    Full,
-    Bad,
-}
-
 // What linking answers: no room is no refusal, the next block is asked.
 #[derive(Clone, Copy)]
 pub enum Linked {
     Done,
     Full,
-    Bad,
 }
 
 // What unlinking answers: the inode, and whether its record stood alone and the block goes.
@@ -61,7 +45,6 @@ pub enum Unlinked {
     Done(u32),
     Alone(u32),
     Absent,
-    Bad,
 }
 
 // dir.rs: Header::minlen.
@@ -91,23 +74,16 @@ fn kind_known(k: u8) -> bool
     (k == 1) | (k == 2) | (k == 4) | (k == 6) | (k == 8) | (k == 10) | (k == 12) | (k == 14)
 }
 
-// The bytes of n from pos on.
-fn left_of(n: usize, pos: usize) -> usize
-    ensures { result ≡ n - pos }
-{
-    if pos < n { n - pos } else { 0 }
-}
-
 // dir.rs: Header::parse, the fields.
 pub fn entry_at(o: Order, block: &[u8], pos: usize) -> Entry
     requires { pos + 8 ≤ length block.now }
     ensures { result ≡ entry_at o pos block.now }
 {
     Entry {
-        inr: field::get_u32(o, block, pos),
-        reclen: field::get_u16(o, block, pos + 4),
-        kind: field::get_u8(o, block, pos + 6),
-        namelen: field::get_u8(o, block, pos + 7),
+        inr: u32::get(o, block, pos),
+        reclen: u16::get(o, block, pos + 4),
+        kind: u8::get(o, block, pos + 6),
+        namelen: u8::get(o, block, pos + 7),
     }
 }
 
@@ -138,7 +114,7 @@ fn judge(left: usize, e: Entry) -> Rec
 pub fn rec_at(o: Order, block: &[u8], pos: usize) -> Rec
     ensures { result ≡ rec_at o block.now pos }
 {
-    let left = left_of(block.len(), pos);
+    let left = block.len().saturating_sub(pos);
     if left < 8 {
         return Rec::End;
     }

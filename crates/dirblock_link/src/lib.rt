@@ -7,18 +7,17 @@ ghost use Rattle.dirblock.specs.Record.{smallest_new, entry_at, name_at, rec_at,
 ghost use Rattle.dirblock.specs.Write.{put_rec, Fits};
 ghost use Rattle.dirblock.specs.Link.{link_at, link_in, unlink_later, unlink_first, unlink_in, Behind};
 
-use dirblock::{Entry, Find, Linked, Rec, Room, Unlinked};
+use dirblock::{Entry, Linked, Rec, Unlinked};
 use field::Order;
+use refusal::Damage;
 
 // A record cut down to its smallest length.
 fn shrink(e: Entry) -> Entry
     ensures { result ≡ shrunk e }
 {
     Entry {
-        inr: e.inr,
         reclen: dirblock::smallest_read(e.namelen),
-        kind: e.kind,
-        namelen: e.namelen,
+        ..e
     }
 }
 
@@ -28,10 +27,8 @@ fn lengthen(e: Entry, n: u16) -> Entry
     ensures { result ≡ absorb n e }
 {
     Entry {
-        inr: e.inr,
         reclen: e.reclen + n,
-        kind: e.kind,
-        namelen: e.namelen,
+        ..e
     }
 }
 
@@ -52,29 +49,31 @@ fn link_at(o: Order, block: &mut [u8], pos: usize, e: Entry, inr: u32, kind: u8,
 }
 
 // dir.rs: newlink_block. The name is linked into the first record with room.
-pub fn link_in(o: Order, block: &mut [u8], inr: u32, kind: u8, name: &[u8]) -> Linked
+pub fn link_in(
+    o: Order,
+    block: &mut [u8],
+    inr: u32,
+    kind: u8,
+    name: &[u8],
+) -> Result<Linked, Damage>
     requires { length name.now < 256 }
     ensures { (block.new, result) ≡ link_in o block.old inr kind name.now }
 {
-    let room = dirblock_search::room_in(o, block, name.len() as u8);
-    match room {
-        Room::At(pos, e) => {
-            link_at(o, block, pos, e, inr, kind, name);
-            Linked::Done
-        }
-        Room::Full => Linked::Full,
-        Room::Bad => Linked::Bad,
-    }
+    let Some((pos, e)) = dirblock_search::room_in(o, block, name.len() as u8)? else {
+        return Ok(Linked::Full);
+    };
+    link_at(o, block, pos, e, inr, kind, name);
+    Ok(Linked::Done)
 }
 
 // The record before the one at pos absorbs it.
-fn unlink_later(o: Order, block: &mut [u8], prev: usize, e: Entry) -> Unlinked
+fn unlink_later(o: Order, block: &mut [u8], prev: usize, e: Entry) -> Result<Unlinked, Damage>
     requires { (length block.old ≡ 512) × Behind block.old prev (entry_at o prev block.old) e }
     ensures { (block.new, result) ≡ unlink_later o block.old prev e }
 {
     let p = dirblock::entry_at(o, block, prev);
     dirblock_write::put_again(o, block, prev, lengthen(p, e.reclen));
-    Unlinked::Done(e.inr)
+    Ok(Unlinked::Done(e.inr))
 }
 
 // The record e, whose name stands behind `from`, is written at the start; its name is read first.
@@ -89,7 +88,7 @@ fn put_first(o: Order, block: &mut [u8], from: usize, e: Entry)
 }
 
 // The record behind the first absorbs it; alone, nothing is written.
-fn unlink_first(o: Order, block: &mut [u8], e: Entry) -> Unlinked
+fn unlink_first(o: Order, block: &mut [u8], e: Entry) -> Result<Unlinked, Damage>
     requires { (length block.old ≡ 512) × (rec_at o block.old 0 ≡ Used e) }
     ensures { (block.new, result) ≡ unlink_first o block.old e }
 {
@@ -98,31 +97,27 @@ fn unlink_first(o: Order, block: &mut [u8], e: Entry) -> Unlinked
     match rec {
         Rec::Used(next) => {
             put_first(o, block, at, lengthen(next, e.reclen));
-            Unlinked::Done(e.inr)
+            Ok(Unlinked::Done(e.inr))
         }
         Rec::Unused(next) => {
             put_first(o, block, at, lengthen(next, e.reclen));
-            Unlinked::Done(e.inr)
+            Ok(Unlinked::Done(e.inr))
         }
-        Rec::End => Unlinked::Alone(e.inr),
-        Rec::Bad => Unlinked::Bad,
+        Rec::End => Ok(Unlinked::Alone(e.inr)),
+        Rec::Bad => Err(Damage),
     }
 }
 
 // dir.rs: unlink_block. The first record of that name, whiteouts too, is taken out.
-pub fn unlink_in(o: Order, block: &mut [u8], name: &[u8]) -> Unlinked
+pub fn unlink_in(o: Order, block: &mut [u8], name: &[u8]) -> Result<Unlinked, Damage>
     requires { length block.old ≡ 512 }
     ensures { (block.new, result) ≡ unlink_in o block.old name.now }
 {
-    let found = dirblock_search::find_in(o, block, name, true);
-    match found {
-        Find::At(s) => {
-            if s.pos == 0 {
-                return unlink_first(o, block, s.entry);
-            }
-            unlink_later(o, block, s.prev, s.entry)
-        }
-        Find::Absent => Unlinked::Absent,
-        Find::Bad => Unlinked::Bad,
+    let Some(s) = dirblock_search::find_in(o, block, name, true)? else {
+        return Ok(Unlinked::Absent);
+    };
+    if s.pos == 0 {
+        return unlink_first(o, block, s.entry);
     }
+    unlink_later(o, block, s.prev, s.entry)
 }

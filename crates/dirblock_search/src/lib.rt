@@ -1,12 +1,15 @@
 // dir.rs: readdir_block, and the searches of newlink_block and unlink_block. The first record of a block that is asked for.
 #![tactic(auto)]
 
-ghost use Rattle.std.specs.Prelude.{◌≡◌, cond, ◌+◌, ◌≤◌, length};
+ghost use Rattle.std.specs.Prelude.{◌≡◌, Bool, cond, ◌+◌, ◌≤◌, length};
 ghost use Rattle.dirblock.specs.Record.{listed, findable, name_at};
-ghost use Rattle.dirblock.specs.Search.{same_name, named, find_in, room_in};
+ghost use Rattle.dirblock.specs.Walk.{Item};
+ghost use Rattle.dirblock.specs.Search.{same_name, named, search_from, find_in, room_in};
+ghost use Rattle.dirblock_search.specs.Wanted.{MayAsk, Tells};
 
-use dirblock::{Entry, Find, Rec, Room, Spot};
+use dirblock::{Entry, Rec, Spot};
 use field::Order;
+use refusal::Damage;
 
 pub fn is_listed(e: Entry) -> bool
     ensures { result ≡ listed e }
@@ -42,63 +45,58 @@ fn is_named(block: &[u8], pos: usize, e: Entry, name: &[u8], whiteouts: bool) ->
     looked_at(e, whiteouts) & has_name(block, pos, e, name)
 }
 
-// The first record of that name, and whether whiteouts count.
-pub fn find_in(o: Order, block: &[u8], name: &[u8], whiteouts: bool) -> Find
-    ensures { result ≡ find_in o block.now name.now whiteouts }
+// The first record, from `from` on, that is wanted.
+pub fn search_from<W: Fn(usize, Entry) -> bool>(
+    o: Order,
+    block: &[u8],
+    from: usize,
+    wanted: W,
+) -> Result<Option<Spot>, Damage>
+    requires { MayAsk o block.now (W.pre wanted) }
+    ensures { (p : Item → Bool) → Tells o block.now (W.post wanted) p → result ≡ search_from p o block.now from from }
 {
-    let mut prev = 0;
-    let mut pos = 0;
+    let mut prev = from;
+    let mut pos = from;
+    // Not a `for`: the step is the record's length.
     loop {
-        let rec = dirblock::rec_at(o, block, pos);
-        match rec {
-            Rec::Used(e) => {
-                if is_named(block, pos, e, name, whiteouts) {
-                    return Find::At(Spot {
-                        pos,
-                        prev,
-                        entry: e,
-                    });
+        match dirblock::rec_at(o, block, pos) {
+            Rec::Used(entry) => {
+                if wanted(pos, entry) {
+                    return Ok(Some(Spot { pos, prev, entry }));
                 }
                 prev = pos;
-                pos += e.reclen as usize;
+                pos += entry.reclen as usize;
             }
-            Rec::Unused(e) => {
-                pos += e.reclen as usize;
+            Rec::Unused(entry) => {
+                pos += entry.reclen as usize;
             }
             Rec::End => {
-                return Find::Absent;
+                return Ok(None);
             }
             Rec::Bad => {
-                return Find::Bad;
+                return Err(Damage);
             }
         }
     }
 }
 
+// The first record of that name, and whether whiteouts count.
+pub fn find_in(o: Order, block: &[u8], name: &[u8], whiteouts: bool) -> Result<Option<Spot>, Damage>
+    ensures { result ≡ find_in o block.now name.now whiteouts }
+{
+    search_from(
+        o,
+        block,
+        0,
+        |pos, e| is_named(block, pos, e, name, whiteouts),
+    )
+}
+
 // The first record with room for a name of n bytes.
-pub fn room_in(o: Order, block: &[u8], n: u8) -> Room
+pub fn room_in(o: Order, block: &[u8], n: u8) -> Result<Option<(usize, Entry)>, Damage>
     ensures { result ≡ room_in o block.now n }
 {
     let wanted = dirblock::smallest_new(n);
-    let mut pos = 0;
-    loop {
-        let rec = dirblock::rec_at(o, block, pos);
-        match rec {
-            Rec::Used(e) => {
-                if wanted <= dirblock::slack_of(e) {
-                    return Room::At(pos, e);
-                }
-                pos += e.reclen as usize;
-            }
-            Rec::Unused(e) => {
-                pos += e.reclen as usize;
-            }
-            Rec::End => {
-                return Room::Full;
-            }
-            Rec::Bad => {
-                return Room::Bad;
-            }
-        }
-    }
+    let found = search_from(o, block, 0, |pos, e| wanted <= dirblock::slack_of(e))?;
+    Ok(found.map(|s| (s.pos, s.entry)))
 }

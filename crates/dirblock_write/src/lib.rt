@@ -6,16 +6,16 @@ ghost use Rattle.dirblock.specs.Record.{name_at};
 ghost use Rattle.dirblock.specs.Write.{put_header, put_rec, Fits, newdir_block};
 
 use dirblock::Entry;
-use field::Order;
+use field::{Number, Order};
 
 fn put_header(o: Order, block: &mut [u8], pos: usize, e: Entry)
     requires { pos + 8 ≤ length block.old }
     ensures { block.new ≡ put_header o pos e block.old }
 {
-    field::put_u32(o, block, pos, e.inr);
-    field::put_u16(o, block, pos + 4, e.reclen);
-    field::put_u8(o, block, pos + 6, e.kind);
-    field::put_u8(o, block, pos + 7, e.namelen);
+    e.inr.put(o, block, pos);
+    e.reclen.put(o, block, pos + 4);
+    e.kind.put(o, block, pos + 6);
+    e.namelen.put(o, block, pos + 7);
 }
 
 // A record with its name, and zeros to its length.

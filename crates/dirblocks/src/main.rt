@@ -2,7 +2,7 @@
 // each: the block's length, the label's length, the label in 32 bytes, the block in 1,024. `stdout` has what 01's rule gives.
 #![tactic(auto)]
 
-use field::Order;
+use field::{Number, Order};
 use std::fs;
 use std::io::{self, ErrorKind, Read};
 
@@ -37,8 +37,8 @@ fn list_next(rt: &impl Print, file: &mut impl Read) -> io::Result<bool> {
         Err(e) if e.kind() == ErrorKind::UnexpectedEof => return Ok(false),
         Err(e) => return Err(e),
     }
-    let n = field::get_u16(Order::Little, &frame, 0) as usize;
-    let label = field::get_u8(Order::Little, &frame, 2) as usize;
+    let n = u16::get(Order::Little, &frame, 0) as usize;
+    let label = u8::get(Order::Little, &frame, 2) as usize;
     write_part(rt, &frame, 3, label)?;
     write_listing(rt, &frame, 35, n)?;
     Ok(true)
@@ -47,12 +47,9 @@ fn list_next(rt: &impl Print, file: &mut impl Read) -> io::Result<bool> {
 fn main(rt: HostRuntime) -> io::Result<()> {
     let path = "blocks";
     let mut file = fs::open(&rt, path)?;
-    let mut turns: usize = 1000;
-    while 0 < turns {
-        if list_next(&rt, &mut file)? {
-            turns -= 1;
-        } else {
-            turns = 0;
+    for _ in 0..1000 {
+        if !list_next(&rt, &mut file)? {
+            break;
         }
     }
     Ok(())

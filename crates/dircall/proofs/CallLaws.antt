@@ -1,4 +1,5 @@
 -- Laws of a public call on a volume that is judged first and then works: what it leaves, and that it keeps the layout where its work does. Assumes nothing.
+use Rattle.std.specs.Prelude.{Ok, Err}
 use mathlib.Core.Path.{◌≡◌}
 use mathlib.Core.Bool.{true, false}
 use mathlib.Core.List.{List, []}
@@ -11,7 +12,6 @@ use Rattle.store.proofs.ActLaws.{leaves-refuse}
 use Rattle.store.proofs.AlwaysLaws.{always-choose, always-refuse}
 use Rattle.volume.specs.declared.Geometry.{Geometry}
 use Rattle.volume.specs.declared.Volume.{Volume}
-use Rattle.sound.specs.declared.Taken.TheVariants.{Sound, Unsound}
 use Rattle.sound.specs.Test.{taken_of}
 use Rattle.balloc.specs.Calls.{entering, writing}
 use Rattle.balloc.proofs.CallLaws.{taken-frame, when-unsound, when-read-only, when-taken}
@@ -20,6 +20,7 @@ use Rattle.books.specs.Work.{given}
 use Rattle.books.proofs.SteadyLaws.{steady-refl}
 use Rattle.books.proofs.KeepLaws.{Keeps}
 use Rattle.ialloc_give.proofs.MarkLaws.{always_at}
+use Rattle.refusal.specs.Refusal.{damage}
 
 -- ---- work that is judged first
 
@@ -40,11 +41,11 @@ module _ {A : Type 0} (judge : List ℕ → Out (Unit {0})) (work : Act A) (img 
 -- ---- the call around it
 
 module _ {A : Type 0} (vol : Volume) (f : Geometry → Act A) (img : List ℕ) where
-  pub call-unsound : taken_of img ≡ Unsound → ◌≡◌ {A = Left A} (img, refused Damaged) (leaves (writing vol f) img)
+  pub call-unsound : taken_of img ≡ Err damage → ◌≡◌ {A = Left A} (img, refused Damaged) (leaves (writing vol f) img)
   unfolding leaves
   call-unsound e = rw (when-unsound vol f img e, apply_all-none img)
 
-  module _ (geo : Geometry) (t : taken_of img ≡ Sound geo) where
+  module _ (geo : Geometry) (t : taken_of img ≡ Ok geo) where
     pub call-read-only : vol.writable ≡ false → ◌≡◌ {A = Left A} (img, refused ReadOnly) (leaves (writing vol f) img)
     unfolding leaves
     call-read-only w = rw (when-read-only vol f img geo t w, apply_all-none img)

@@ -1,4 +1,5 @@
 -- Laws of a directory's blocks. Assumes nothing.
+use Rattle.std.specs.Prelude.{Option, Some, None, Result, Ok, Err}
 use mathlib.Core.Path.{◌≡◌, refl, sym, ap, subst, ◌∙◌}
 use mathlib.Core.Bool.{Bool, true, false}
 use mathlib.Core.List.{List}
@@ -22,8 +23,6 @@ use Rattle.inode.specs.Shape.{is_dir}
 use Rattle.inode_run.specs.declared.Spot.{Spot}
 use Rattle.inode_run.specs.declared.Run.{Run}
 use Rattle.inode_run.specs.declared.Run.TheVariants as Run
-use Rattle.inode_run.specs.declared.Found.{Found}
-use Rattle.inode_run.specs.declared.Found.TheVariants as Found
 use Rattle.inode_run.specs.Judge.{ask, and_then}
 use Rattle.inode_run.specs.Find.{find_inode, found_of}
 use Rattle.inode_run.specs.Run.{run_at, readable}
@@ -31,25 +30,25 @@ use Rattle.inode_run.proofs.FindLaws.{found-got, Named, find-named}
 use Rattle.inode_read.specs.Read.{Reaches, piece_of}
 use Rattle.inode_read.proofs.ReachLaws.{run-reaches}
 use Rattle.dirblock.proofs.WriteLaws.{part-whole}
-use Rattle.dirfile.specs.declared.BlockAt.{BlockAt}
-use Rattle.dirfile.specs.declared.BlockAt.TheVariants as BlockAt
 use Rattle.dirfile.specs.Block.{dir_of, dir_run, piece_out, dir_block, bytes_at, InImage, read_into}
+use Rattle.refusal.specs.Refusal.{damage}
+use Rattle.refusal.specs.declared.Damage.{Damage}
 
 -- ---- the directory that a number names
 
 module _ (geo : Geometry) (img : List ℕ) (i : ℕ) where
-  pub dir-got : (s : Spot) → Found.At s ≡ found_of (find_inode geo img i) → is_dir s.shape ≡ true → Found.At s ≡ found_of (dir_of geo img i)
+  pub dir-got : (s : Spot) → Ok s ≡ found_of (find_inode geo img i) → is_dir s.shape ≡ true → Ok s ≡ found_of (dir_of geo img i)
   unfolding dir_of
   dir-got s e h = rw (found-got (find_inode geo img i) s e, h)
 
-  pub dir-other : (s : Spot) → Found.At s ≡ found_of (find_inode geo img i) → is_dir s.shape ≡ false → Found.No NotDirectory ≡ found_of (dir_of geo img i)
+  pub dir-other : (s : Spot) → Ok s ≡ found_of (find_inode geo img i) → is_dir s.shape ≡ false → Err NotDirectory ≡ found_of (dir_of geo img i)
   unfolding dir_of
   dir-other s e h = rw (found-got (find_inode geo img i) s e, h)
 
-  pub dir-none : (r : Refusal) → Found.No r ≡ found_of (find_inode geo img i) → Found.No r ≡ found_of (dir_of geo img i)
+  pub dir-none : (r : Refusal) → Err r ≡ found_of (find_inode geo img i) → Err r ≡ found_of (dir_of geo img i)
   unfolding dir_of
   dir-none r e = go (find_inode geo img i) e where
-    go : (o : Out Spot) → Found.No r ≡ found_of o → Found.No r ≡ found_of (and_then o (λ s. ask (is_dir s.shape) NotDirectory (got s)))
+    go : (o : Out Spot) → Err r ≡ found_of o → Err r ≡ found_of (and_then o (λ s. ask (is_dir s.shape) NotDirectory (got s)))
     go (got s) e = absurd (let z : ◌≡◌ {A = ℕ} 0 1 = cc in let y : ⊥ = omega arith in y)
     go (refused q) e = e
 
@@ -73,19 +72,19 @@ dir-named geo img fr i s e = find-named geo img fr i s (dir-is geo img i s e).0
 -- ---- 512 bytes of a run
 
 module _ (geo : Geometry) (img : List ℕ) (from : ℕ) where
-  pub piece-at : {r : Run} {a : FragNum} {m : ℕ} → r ≡ Run.At a m → (x : ℕ) → x ≡ a.0 * geo.fsize + from → piece_out geo img r from ≡ bytes_at img (BlockAt.At x)
+  pub piece-at : {r : Run} {a : FragNum} {m : ℕ} → r ≡ Run.At a m → (x : ℕ) → x ≡ a.0 * geo.fsize + from → piece_out geo img r from ≡ bytes_at img (Ok (Some x))
   unfolding piece_out
   piece-at e x h = rw (e, h)
 
-  pub piece-hole : {r : Run} {m : ℕ} → r ≡ Run.Hole m → piece_out geo img r from ≡ bytes_at img BlockAt.Hole
+  pub piece-hole : {r : Run} {m : ℕ} → r ≡ Run.Hole m → piece_out geo img r from ≡ bytes_at img (Ok None)
   unfolding piece_out
   piece-hole e = rw e
 
-  pub piece-past : {r : Run} → r ≡ Run.Past → piece_out geo img r from ≡ bytes_at img BlockAt.Bad
+  pub piece-past : {r : Run} → r ≡ Run.Past → piece_out geo img r from ≡ bytes_at img (Err damage)
   unfolding piece_out
   piece-past e = rw e
 
-  pub piece-bad : {r : Run} → r ≡ Run.Bad → piece_out geo img r from ≡ bytes_at img BlockAt.Bad
+  pub piece-bad : {r : Run} → r ≡ Run.Bad → piece_out geo img r from ≡ bytes_at img (Err damage)
   unfolding piece_out
   piece-bad e = rw e
 
@@ -125,16 +124,16 @@ block-long geo img fr at size k l b e =
     go Run.Past h e = absurd (let z : ◌≡◌ {A = ℕ} 0 1 = cc in let y : ⊥ = omega arith in y)
     go Run.Bad h e = absurd (let z : ◌≡◌ {A = ℕ} 0 1 = cc in let y : ⊥ = omega arith in y)
 
-pub in_image : (img : List ℕ) (p : ℕ) {b : BlockAt} → b ≡ BlockAt.At p → InImage img b → p + 512 ≤ length img
-in_image img p e h = subst (λ (b : BlockAt). InImage img b) e h
+pub in_image : (img : List ℕ) (p : ℕ) {b : (Result (Option ℕ) Damage)} → b ≡ Ok (Some p) → InImage img b → p + 512 ≤ length img
+in_image img p e h = subst (λ (b : Result (Option ℕ) Damage). InImage img b) e h
 
 -- ---- a buffer of 512 bytes
 
 put-over : (vs buf : List ℕ) → length vs ≡ length buf → put 0 vs buf ≡ vs
 put-over vs buf l = sym (part-whole (length vs) (put 0 vs buf) (length-put 0 vs buf ∙ sym l)) ∙ part-put 0 vs buf (omega (arith, l))
 
-pub copied : (img : List ℕ) (p : ℕ) {b : BlockAt} → b ≡ BlockAt.At p → (buf : List ℕ) → length buf ≡ 512 → p + 512 ≤ length img → (new : List ℕ) → new ≡ put 0 (part 512 p img) buf → bytes_at img b ≡ read_into true new
+pub copied : (img : List ℕ) (p : ℕ) {b : (Result (Option ℕ) Damage)} → b ≡ Ok (Some p) → (buf : List ℕ) → length buf ≡ 512 → p + 512 ≤ length img → (new : List ℕ) → new ≡ put 0 (part 512 p img) buf → bytes_at img b ≡ read_into true new
 copied img p e buf l h new q = ap (bytes_at img) e ∙ ap got (sym (q ∙ put-over (part 512 p img) buf (length-part 512 p img h ∙ sym l)))
 
-pub zeroed : (img : List ℕ) {b : BlockAt} → b ≡ BlockAt.Hole → (buf : List ℕ) → length buf ≡ 512 → (new : List ℕ) → new ≡ put 0 (zeros 512) buf → bytes_at img b ≡ read_into true new
+pub zeroed : (img : List ℕ) {b : (Result (Option ℕ) Damage)} → b ≡ Ok None → (buf : List ℕ) → length buf ≡ 512 → (new : List ℕ) → new ≡ put 0 (zeros 512) buf → bytes_at img b ≡ read_into true new
 zeroed img e buf l new q = ap (bytes_at img) e ∙ ap got (sym (q ∙ put-over (zeros 512) buf (length-zeros 512 ∙ sym l)))

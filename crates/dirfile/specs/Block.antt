@@ -1,5 +1,5 @@
 -- 01, "Directory records and attributes": "512-byte blocks": those of a directory, read as the blocks of its file are. Assumes nothing: these are definitions.
-use Rattle.std.specs.Prelude.{Bool, true, false, List, ℕ, ◌+◌, ◌*◌, ◌/◌, ◌%◌, ◌≤◌, length}
+use Rattle.std.specs.Prelude.{Bool, true, false, List, ℕ, ◌+◌, ◌*◌, ◌/◌, ◌%◌, ◌≤◌, length, Option, Some, None, Result, Ok, Err}
 use Rattle.field.specs.Field.{part, zeros}
 use Rattle.refusal.specs.declared.Refusal.TheVariants.{Damaged, NotDirectory}
 use Rattle.store.specs.Act.{Out, got, refused}
@@ -11,8 +11,8 @@ use Rattle.inode_run.specs.Judge.{ask, and_then}
 use Rattle.inode_run.specs.Find.{find_inode}
 use Rattle.inode_run.specs.Run.{run_at, readable}
 use Rattle.inode_read.specs.Read.{piece_of}
-use Rattle.dirfile.specs.declared.BlockAt.{BlockAt}
-use Rattle.dirfile.specs.declared.BlockAt.TheVariants as BlockAt
+use Rattle.refusal.specs.Refusal.{damage}
+use Rattle.refusal.specs.declared.Damage.{Damage}
 
 -- "numbers, the inode (22), kind (.., 20, ..)": the directory that a number names
 unfoldable pub dir_of : Geometry → List ℕ → ℕ → Out Spot
@@ -32,16 +32,16 @@ dir_block geo at size img k = piece_out geo img (dir_run geo at size img k) (k *
 -- ---- the code's answers
 
 -- the bytes at a place of the image
-abbrev pub bytes_at : List ℕ → BlockAt → Out (List ℕ)
-bytes_at img (BlockAt.At p) = got (part 512 p img)
-bytes_at img BlockAt.Hole = got (zeros 512)
-bytes_at img BlockAt.Bad = refused Damaged
+abbrev pub bytes_at : List ℕ → Result (Option ℕ) Damage → Out (List ℕ)
+bytes_at img (Ok (Some p)) = got (part 512 p img)
+bytes_at img (Ok None) = got (zeros 512)
+bytes_at img (Err harm) = refused Damaged
 
 -- they lie in it
-abbrev pub InImage : List ℕ → BlockAt → Type 0
-InImage img (BlockAt.At p) = p + 512 ≤ length img
-InImage img BlockAt.Hole = Unit {0}
-InImage img BlockAt.Bad = Unit {0}
+abbrev pub InImage : List ℕ → Result (Option ℕ) Damage → Type 0
+InImage img (Ok (Some p)) = p + 512 ≤ length img
+InImage img (Ok None) = Unit {0}
+InImage img (Err harm) = Unit {0}
 
 -- a buffer that a block was read into, or was not
 abbrev pub read_into : Bool → List ℕ → Out (List ℕ)

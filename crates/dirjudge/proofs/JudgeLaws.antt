@@ -72,9 +72,6 @@ passed false e h = absurd (let z : ◌≡◌ {A = ℕ} 0 1 = cc in let y : ⊥ =
 -- ---- a link
 
 module _ (geo : Geometry) (size : ℕ) where
-  pub end-far : Sized geo → zones_bytes geo - 512 < size → refused TooBig ≡ link_end geo size nowhere
-  end-far z l = rw (lt-leb (size + 512) (zones_bytes geo) (omega (arith, l, zones-low geo z)))
-
   pub end-near : Sized geo → size ≤ zones_bytes geo - 512 → got (tt {0}) ≡ link_end geo size nowhere
   end-near z l = rw (le-leb (size + 512) (zones_bytes geo) (omega (arith, l, zones-low geo z)))
 

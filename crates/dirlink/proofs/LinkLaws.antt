@@ -1,4 +1,5 @@
 -- Laws of a name linked into a directory and of one unlinked from it: what each call leaves, case by case. Assumes nothing.
+use Rattle.std.specs.Prelude.{Option, Some, None, Result, Ok, Err}
 use mathlib.Core.Path.{◌≡◌, refl, sym, ◌∙◌}
 use mathlib.Core.Bool.{Bool, true, false, ◌&&◌, and-false}
 use mathlib.Core.List.{List}
@@ -25,8 +26,6 @@ use Rattle.truncate.specs.Call.{judged_work}
 use Rattle.truncate.proofs.CallLaws.{judge-far, found_no}
 use Rattle.books.specs.Work.{damaged_out, given}
 use Rattle.books.proofs.KeepLaws.{work_left}
-use Rattle.dirblock.specs.declared.Room.{Room}
-use Rattle.dirblock.specs.declared.Room.TheVariants as Room
 use Rattle.dirblock.specs.declared.Unlinked.{Unlinked}
 use Rattle.dirblock.specs.declared.Unlinked.TheVariants as Unlinked
 use Rattle.dirblock.specs.Search.{room_in}
@@ -40,6 +39,8 @@ use Rattle.dirwalk.proofs.WalkLaws.{finds, rooms, find_start, find-odd, room_sta
 use Rattle.dirwrite.specs.Write.{link_block, unlink_block, link_grown, drop_block}
 use Rattle.dirwrite.proofs.WriteLaws.{grown-stop}
 use Rattle.dirlink.specs.Link.{link_by, link_into, link_name, take_hit, unlink_hit, unlink_by, unlink_from, unlink_name}
+use Rattle.dirblock.specs.declared.Entry.{Entry}
+use Rattle.refusal.specs.declared.Damage.{Damage}
 
 -- ---- what a search of a directory answers lies inside it
 
@@ -59,16 +60,16 @@ module _ (geo : Geometry) (at size : ℕ) (img : List ℕ) where
       go true h = seek_found (said geo at size img f) (size / 512 - 0) 0 a (start (eqb-true (size % 512) 0 h) ∙ e)
       go false h = no_damage (odd (eqb-false (size % 512) 0 h) ∙ e)
 
-  room-block : (b k : ℕ) (r : Room) → roomy_in b r ≡ here k → b ≡ k
-  room-block b k (Room.At pos e) h = cc
-  room-block b k Room.Full h = no_answer h
-  room-block b k Room.Bad h = no_damage h
+  room-block : (b k : ℕ) (r : Result (Option (ℕ × Entry)) Damage) → roomy_in b r ≡ here k → b ≡ k
+  room-block b k (Ok (Some (pos, e))) h = cc
+  room-block b k (Ok None) h = no_answer h
+  room-block b k (Err harm) h = no_damage h
 
-  hit-block : (b : ℕ) (h : Hit) (u : Unlinked) → seen_in b u ≡ here h → b ≡ h.block
-  hit-block b h (Unlinked.Done i) e = cc
-  hit-block b h (Unlinked.Alone i) e = cc
-  hit-block b h Unlinked.Absent e = no_answer e
-  hit-block b h Unlinked.Bad e = no_damage e
+  hit-block : (b : ℕ) (h : Hit) (u : Result Unlinked Damage) → seen_in b u ≡ here h → b ≡ h.block
+  hit-block b h (Ok (Unlinked.Done i)) e = cc
+  hit-block b h (Ok (Unlinked.Alone i)) e = cc
+  hit-block b h (Ok Unlinked.Absent) e = no_answer e
+  hit-block b h (Err harm) e = no_damage e
 
   -- the block with room
   pub room-inside : (n : ℕ) {x : Sought ℕ} → x ≡ room_dir geo at size img n → {k : ℕ} → x ≡ here k → k * 512 + 512 ≤ size

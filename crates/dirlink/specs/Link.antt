@@ -1,5 +1,5 @@
 -- 01, "Directory records and attributes": a name linked into a directory, and one unlinked from it, as steps of the work: each makes its own tests again, and what they refuse is 97 there. Assumes nothing: these are definitions.
-use Rattle.std.specs.Prelude.{List, ℕ, length}
+use Rattle.std.specs.Prelude.{List, ℕ, length, Result, Ok, Err}
 use Rattle.refusal.specs.declared.Refusal.TheVariants.{Damaged}
 use Rattle.store.specs.Act.{Out, got, refused, Act, pure, refuse, ◌>>=◌, ◌>>◌, choose}
 use Rattle.volume.specs.declared.Geometry.{Geometry}
@@ -10,8 +10,7 @@ use Rattle.dirfile.specs.Seek.{Sought, here, nowhere, hurt}
 use Rattle.dirwalk.specs.declared.Hit.{Hit}
 use Rattle.dirwalk.specs.Walk.{find_dir, room_dir}
 use Rattle.dirwrite.specs.Write.{link_block, unlink_block, link_grown, drop_block}
-use Rattle.dirlink.specs.declared.Gone.{Gone}
-use Rattle.dirlink.specs.declared.Gone.TheVariants as Gone
+use Rattle.refusal.specs.declared.Refusal.{Refusal}
 
 -- ---- dir_newlink
 
@@ -52,6 +51,6 @@ unfoldable pub unlink_name : Geometry → ℕ → List ℕ → Act ℕ
 unlink_name geo d name = λ img. given (damaged_out (dir_of geo img d)) (λ s. unlink_from geo d s name) img
 
 -- the code's answer
-abbrev pub gone_out : Gone → Out ℕ
-gone_out (Gone.Inode i) = got i
-gone_out (Gone.No e) = refused e
+abbrev pub gone_out : Result ℕ Refusal → Out ℕ
+gone_out (Ok i) = got i
+gone_out (Err e) = refused e

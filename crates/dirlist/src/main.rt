@@ -11,6 +11,7 @@ fn read_full(from: &mut impl Read, buf: &mut [u8]) -> io::Result<usize>
     ensures { ReadsAtMost result buf.new }
 {
     let mut done = 0;
+    // Not a `for`: the step is what a read gives.
     while done < buf.len() {
         let n = from.read(&mut buf[done..])?;
         if n == 0 {

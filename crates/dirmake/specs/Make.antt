@@ -1,5 +1,5 @@
 -- 01: the work of mknod and mkdir: an inode given out, its name linked, a directory's first block. Assumes nothing: these are definitions.
-use Rattle.std.specs.Prelude.{List, [], ◌∷◌, ℕ}
+use Rattle.std.specs.Prelude.{List, [], ◌∷◌, ℕ, Result, Ok, Err}
 use Rattle.store.specs.Act.{Out, got, refused, Act, pure, reads, store, ◌>>=◌, ◌>>◌}
 use Rattle.volume.specs.declared.Geometry.{Geometry}
 use Rattle.volume.specs.Volume.{inode_at}
@@ -15,8 +15,7 @@ use Rattle.inode_write.specs.Write.{write_at}
 use Rattle.dirblock.specs.Write.{newdir_block}
 use Rattle.dirwrite.specs.Write.{cut_to, bump_found}
 use Rattle.dirlink.specs.Link.{link_name}
-use Rattle.dirmake.specs.declared.Made.{Made}
-use Rattle.dirmake.specs.declared.Made.TheVariants as Made
+use Rattle.refusal.specs.declared.Refusal.{Refusal}
 
 -- what the record of inode i, of that kind, says
 unfoldable pub attr_now : Geometry → InodeType → ℕ → List ℕ → InodeAttr
@@ -43,6 +42,6 @@ unfoldable pub make_dir : Geometry → ℕ → List ℕ → Inode → Act InodeA
 make_dir geo d name new = give_inode geo new >>= (λ i. link_name geo d i (type_number Directory) name >> fill_dir geo d i)
 
 -- the code's answer
-abbrev pub made_out : Made → Out InodeAttr
-made_out (Made.Attr a) = got a
-made_out (Made.No e) = refused e
+abbrev pub made_out : Result InodeAttr Refusal → Out InodeAttr
+made_out (Ok a) = got a
+made_out (Err e) = refused e

@@ -7,18 +7,9 @@ ghost use Rattle.frame.specs.Frame.{Frame};
 ghost use Rattle.inode_setblock.specs.Set.{written_out};
 ghost use Rattle.dirmake.specs.Make.{attr_now, make_node, first_size, first_block, fill_dir, make_dir, made_out};
 
-use ialloc_give::NewInode;
 use inode::{Inode, InodeAttr, InodeType};
-use inode_setblock::Written;
 use refusal::Refusal;
 use volume::{Geometry, InodeNum};
-
-// What the new inode's record says, or a refusal.
-#[derive(Clone, Copy)]
-pub enum Made {
-    Attr(InodeAttr),
-    No(Refusal),
-}
 
 // What the record of an inode of that kind says.
 fn attr_now(img: &[u8], geo: Geometry, kind: InodeType, inr: InodeNum) -> InodeAttr
@@ -38,38 +29,35 @@ pub fn make_node(
     name: &[u8],
     kind: InodeType,
     new: Inode,
-) -> Made
+) -> Result<InodeAttr, Refusal>
     requires { Frame geo img.old × (length name.now < 256) }
     ensures { (img.new, made_out result) ≡ leaves (make_node geo dinr.0 name.now kind new) img.old }
 {
-    match ialloc_give::inode_alloc(img, geo, new) {
-        NewInode::Number(inr) => {
-            let a = attr_now(img, geo, kind, inr);
-            match dirlink::link_name(img, geo, dinr, inr.0, inode::type_number(kind), name) {
-                Written::Done => Made::Attr(a),
-                Written::No(e) => Made::No(e),
-            }
-        }
-        NewInode::No(e) => Made::No(e),
-    }
+    let inr = ialloc_give::inode_alloc(img, geo, new)?;
+    let a = attr_now(img, geo, kind, inr);
+    dirlink::link_name(img, geo, dinr, inr.0, inode::type_number(kind), name)?;
+    Ok(a)
 }
 
 // The new directory's first block: its own name and its parent's.
-fn write_first(img: &mut [u8], geo: Geometry, dinr: InodeNum, inr: InodeNum) -> Made
+fn write_first(
+    img: &mut [u8],
+    geo: Geometry,
+    dinr: InodeNum,
+    inr: InodeNum,
+) -> Result<InodeAttr, Refusal>
     requires { Frame geo img.old × (inr.0 < geo.ncg * geo.ipg) }
     ensures { (img.new, made_out result) ≡ leaves (first_block geo dinr.0 inr.0) img.old }
 {
     let o = geo.order;
     let at = frame::inode_spot(img, geo, inr);
     let block = dirblock_write::newdir(o, inr.0, dinr.0);
-    match inode_write::write_at(img, geo, at, 512, 0, &block) {
-        Written::Done => Made::Attr(attr_now(img, geo, InodeType::Directory, inr)),
-        Written::No(e) => Made::No(e),
-    }
+    inode_write::write_at(img, geo, at, 512, 0, &block)?;
+    Ok(attr_now(img, geo, InodeType::Directory, inr))
 }
 
 // The new directory's two links, and its size.
-fn size_first(img: &mut [u8], geo: Geometry, inr: InodeNum) -> Written
+fn size_first(img: &mut [u8], geo: Geometry, inr: InodeNum) -> Result<(), Refusal>
     requires { Frame geo img.old × (inr.0 < geo.ncg * geo.ipg) }
     ensures { (img.new, written_out result) ≡ leaves (first_size geo inr.0) img.old }
 {
@@ -80,29 +68,32 @@ fn size_first(img: &mut [u8], geo: Geometry, inr: InodeNum) -> Written
 }
 
 // The parent has a link more; then the new directory is filled.
-fn fill_dir(img: &mut [u8], geo: Geometry, dinr: InodeNum, inr: InodeNum) -> Made
+fn fill_dir(
+    img: &mut [u8],
+    geo: Geometry,
+    dinr: InodeNum,
+    inr: InodeNum,
+) -> Result<InodeAttr, Refusal>
     requires { Frame geo img.old × (inr.0 < geo.ncg * geo.ipg) }
     ensures { (img.new, made_out result) ≡ leaves (fill_dir geo dinr.0 inr.0) img.old }
 {
-    match dirwrite::bump_found(img, geo, dinr) {
-        Written::Done => match size_first(img, geo, inr) {
-            Written::Done => write_first(img, geo, dinr, inr),
-            Written::No(e) => Made::No(e),
-        },
-        Written::No(e) => Made::No(e),
-    }
+    dirwrite::bump_found(img, geo, dinr)?;
+    size_first(img, geo, inr)?;
+    write_first(img, geo, dinr, inr)
 }
 
 // An inode given out, its name linked, and its first block.
-pub fn make_dir(img: &mut [u8], geo: Geometry, dinr: InodeNum, name: &[u8], new: Inode) -> Made
+pub fn make_dir(
+    img: &mut [u8],
+    geo: Geometry,
+    dinr: InodeNum,
+    name: &[u8],
+    new: Inode,
+) -> Result<InodeAttr, Refusal>
     requires { Frame geo img.old × (length name.now < 256) }
     ensures { (img.new, made_out result) ≡ leaves (make_dir geo dinr.0 name.now new) img.old }
 {
-    match ialloc_give::inode_alloc(img, geo, new) {
-        NewInode::Number(inr) => match dirlink::link_name(img, geo, dinr, inr.0, 4, name) {
-            Written::Done => fill_dir(img, geo, dinr, inr),
-            Written::No(e) => Made::No(e),
-        },
-        NewInode::No(e) => Made::No(e),
-    }
+    let inr = ialloc_give::inode_alloc(img, geo, new)?;
+    dirlink::link_name(img, geo, dinr, inr.0, 4, name)?;
+    fill_dir(img, geo, dinr, inr)
 }

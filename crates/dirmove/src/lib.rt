@@ -8,19 +8,24 @@ ghost use Rattle.inode_setblock.specs.Set.{written_out};
 ghost use Rattle.dirlink.specs.Link.{gone_out};
 ghost use Rattle.dirmove.specs.Move.{clear_way, add_name, drop_name, relink, move_name};
 
-use dirlink::Gone;
-use inode_setblock::Written;
+use refusal::Refusal;
 use volume::{Geometry, InodeNum};
 
 // What has the new name goes, if something has.
-fn clear_way(img: &mut [u8], geo: Geometry, dinr: InodeNum, name: &[u8], clears: bool) -> Written
+fn clear_way(
+    img: &mut [u8],
+    geo: Geometry,
+    dinr: InodeNum,
+    name: &[u8],
+    clears: bool,
+) -> Result<(), Refusal>
     requires { Frame geo img.old }
     ensures { (img.new, written_out result) ≡ leaves (clear_way geo dinr.0 name.now clears) img.old }
 {
     if clears {
         return dirtake::take_name(img, geo, dinr, name);
     }
-    Written::Done
+    Ok(())
 }
 
 // The file gets a link more and its new name.
@@ -31,25 +36,27 @@ fn add_name(
     name: &[u8],
     inr: u32,
     kind: u8,
-) -> Written
+) -> Result<(), Refusal>
     requires { Frame geo img.old × (length name.now < 256) }
     ensures { (img.new, written_out result) ≡ leaves (add_name geo dinr.0 name.now inr kind) img.old }
 {
-    match dirwrite::bump_found(img, geo, InodeNum(inr)) {
-        Written::Done => dirlink::link_name(img, geo, dinr, inr, kind, name),
-        Written::No(e) => Written::No(e),
-    }
+    dirwrite::bump_found(img, geo, InodeNum(inr))?;
+    dirlink::link_name(img, geo, dinr, inr, kind, name)
 }
 
 // And loses its old one.
-fn drop_name(img: &mut [u8], geo: Geometry, dinr: InodeNum, name: &[u8], inr: u32) -> Gone
+fn drop_name(
+    img: &mut [u8],
+    geo: Geometry,
+    dinr: InodeNum,
+    name: &[u8],
+    inr: u32,
+) -> Result<u32, Refusal>
     requires { Frame geo img.old }
     ensures { (img.new, gone_out result) ≡ leaves (drop_name geo dinr.0 name.now inr) img.old }
 {
-    match dirtake::take_name(img, geo, dinr, name) {
-        Written::Done => Gone::Inode(inr),
-        Written::No(e) => Gone::No(e),
-    }
+    dirtake::take_name(img, geo, dinr, name)?;
+    Ok(inr)
 }
 
 fn relink(
@@ -61,14 +68,12 @@ fn relink(
     sname: &[u8],
     inr: u32,
     kind: u8,
-) -> Gone
+) -> Result<u32, Refusal>
     requires { Frame geo img.old × (length dname.now < 256) }
     ensures { (img.new, gone_out result) ≡ leaves (relink geo ddinr.0 dname.now sdinr.0 sname.now inr kind) img.old }
 {
-    match add_name(img, geo, ddinr, dname, inr, kind) {
-        Written::Done => drop_name(img, geo, sdinr, sname, inr),
-        Written::No(e) => Gone::No(e),
-    }
+    add_name(img, geo, ddinr, dname, inr, kind)?;
+    drop_name(img, geo, sdinr, sname, inr)
 }
 
 // rename's work: what stands in the way goes, the new name is linked, the old one goes.
@@ -82,12 +87,10 @@ pub fn move_name(
     clears: bool,
     inr: u32,
     kind: u8,
-) -> Gone
+) -> Result<u32, Refusal>
     requires { Frame geo img.old × (length dname.now < 256) }
     ensures { (img.new, gone_out result) ≡ leaves (move_name geo ddinr.0 dname.now sdinr.0 sname.now clears inr kind) img.old }
 {
-    match clear_way(img, geo, ddinr, dname, clears) {
-        Written::Done => relink(img, geo, ddinr, dname, sdinr, sname, inr, kind),
-        Written::No(e) => Gone::No(e),
-    }
+    clear_way(img, geo, ddinr, dname, clears)?;
+    relink(img, geo, ddinr, dname, sdinr, sname, inr, kind)
 }

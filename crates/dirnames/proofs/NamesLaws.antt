@@ -1,5 +1,5 @@
 -- The laws of `specs/Names.antt`, as the code asks for them. Assumes nothing.
-use mathlib.Core.Path.{◌≡◌, refl, sym, ap, ◌∙◌}
+use mathlib.Core.Path.{◌≡◌, refl, sym, ◌∙◌}
 use mathlib.Core.Bool.{Bool, true, false, ◌&&◌}
 use mathlib.Core.List.{List, [], ◌∷◌}
 use Prim.Native.Nat.{ℕ, zero, suc, ◌<◌}
@@ -7,15 +7,11 @@ use native.Mathlib.Omega.{arith}
 use lib.Dec.{eqb, ltb}
 use lib.ListN.{length, get_or}
 use borrow.Author.Tests.{eq-eqb, ne_eqb, lt-ltb}
-use Rattle.bits.proofs.UptoLaws.{both}
+use Rattle.bits.proofs.UptoLaws.{both, not-true}
 use Rattle.dirnames.specs.Names.{plain, all_plain, legal, special}
 
 pub never_both : (a : Bool) → a ≡ true → a ≡ false → ⊥
 never_both a t f = let z : ◌≡◌ {A = ℕ} 0 1 = cc in omega arith
-
-none : (a : Bool) → a && false ≡ false
-none true = refl
-none false = refl
 
 -- ---- one byte
 
@@ -41,12 +37,6 @@ unfolding all_plain
 all-plain [] f = refl
 all-plain (b ∷ bs) f = rw (f 0 (omega arith), all-plain bs (λ k l. f (suc k) (omega arith)))
 
-pub not-all : (bs : List ℕ) (k : ℕ) → k < length bs → plain (get_or bs k 0) ≡ false → all_plain bs ≡ false
-unfolding all_plain
-not-all [] k l h = absurd (let y : ⊥ = omega arith in y)
-not-all (b ∷ bs) zero l h = rw h
-not-all (b ∷ bs) (suc k) l h = ap (λ (r : Bool). plain b && r) (not-all bs k (omega arith) h) ∙ none (plain b)
-
 pub each-plain : (bs : List ℕ) → all_plain bs ≡ true → (k : ℕ) → k < length bs → plain (get_or bs k 0) ≡ true
 unfolding all_plain
 each-plain [] e k l = absurd (let y : ⊥ = omega arith in y)
@@ -60,10 +50,13 @@ unfolding legal
 legal-all [] f = refl
 legal-all (b ∷ bs) f = lt-ltb 0 (length (b ∷ bs)) (omega arith) ∙ sym (all-plain (b ∷ bs) f)
 
-pub legal-not : (name : List ℕ) (k : ℕ) → k < length name → plain (get_or name k 0) ≡ false → false ≡ legal name
+legal-each : (name : List ℕ) → legal name ≡ true → (k : ℕ) → k < length name → plain (get_or name k 0) ≡ true
 unfolding legal
-legal-not [] k l h = refl
-legal-not (b ∷ bs) k l h = sym (not-all (b ∷ bs) k l h)
+legal-each [] e k l = absurd (let y : ⊥ = omega arith in y)
+legal-each (b ∷ bs) e k l = each-plain (b ∷ bs) e k l
+
+pub legal-not : (name : List ℕ) → (((k : ℕ) → k < length name → plain (get_or name k 0) ≡ true) → ⊥) → false ≡ legal name
+legal-not name h = sym (not-true _ (λ e. h (legal-each name e)))
 
 -- a name of one byte, of two, of neither
 pub special-one : (name : List ℕ) → length name ≡ 1 → eqb (get_or name 0 0) 46 ≡ special name

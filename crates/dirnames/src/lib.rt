@@ -14,14 +14,7 @@ fn is_plain(b: u8) -> bool
 fn is_legal(name: &[u8]) -> bool
     ensures { result ≡ legal name.now }
 {
-    let mut i = 0;
-    while i < name.len() {
-        if !is_plain(name[i]) {
-            return false;
-        }
-        i += 1;
-    }
-    name.len() > 0
+    name.iter().all(|b| is_plain(*b)) && !name.is_empty()
 }
 
 fn is_special(name: &[u8]) -> bool

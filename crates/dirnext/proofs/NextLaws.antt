@@ -1,16 +1,17 @@
 -- Laws of telling a directory's records one by one. Assumes nothing.
+use Rattle.std.specs.Prelude.{Option, Some, None, Result, Ok, Err}
 use mathlib.Core.Path.{◌≡◌, refl, sym, ap, subst, ◌∙◌}
 use mathlib.Core.Bool.{Bool, true, false, ◌||◌}
 use mathlib.Core.Logic.{◌⊎◌, ⊎_elim}
-use mathlib.Core.List.{List, []}
+use mathlib.Core.List.{List, [], ◌++◌}
 use Prim.Native.Nat.{ℕ, zero, suc, ◌+◌, ◌-◌, ◌*◌, ◌/◌, ◌%◌, ◌≤◌, ◌<◌}
 use native.Mathlib.Nat.{mul-div_left}
 use native.Mathlib.Omega.{arith}
-use lib.ListN.{length, take, drop}
+use lib.ListN.{length, take, drop, take-append-drop}
 use lib.Dec.{eqb, leb}
 use borrow.Author.Tests.{eq-eqb, ne_eqb, le-leb, lt-leb}
-use Rattle.field.specs.Field.{put, part, zeros}
-use Rattle.field.proofs.Laws.{part-put, length-put}
+use Rattle.field.specs.Field.{put, part}
+use Rattle.field.proofs.Laws.{part-put, length-put, put-middle}
 use Rattle.field.specs.declared.Order.{Order}
 use Rattle.refusal.specs.declared.Refusal.{Refusal}
 use Rattle.refusal.specs.declared.Refusal.TheVariants.{Damaged, NotDirectory, BufferTooSmall}
@@ -19,8 +20,6 @@ use Rattle.volume.specs.declared.Geometry.{Geometry}
 use Rattle.frame.specs.Frame.{Frame}
 use Rattle.frame.proofs.Places.{order}
 use Rattle.inode.specs.declared.InodeType.{InodeType}
-use Rattle.inode.specs.declared.Kind.{Kind}
-use Rattle.inode.specs.declared.Kind.TheVariants.{Is, Nameless}
 use Rattle.inode.specs.Shape.{type_of, is_dir}
 use Rattle.inode.specs.Kind.{kind_of}
 use Rattle.inode_run.specs.declared.Spot.{Spot}
@@ -30,17 +29,13 @@ use Rattle.dirblock.specs.declared.Spot as place
 use Rattle.dirblock.specs.Record.{kind_known}
 use Rattle.dirblock.proofs.RecordLaws.{held}
 use Rattle.dirblock.proofs.FoundLaws.{found}
-use Rattle.dirblock.specs.declared.Find.{Find}
-use Rattle.dirblock.specs.declared.Find.TheVariants as Find
 use Rattle.dirblock.specs.Search.{search_from}
-use Rattle.dirfile.specs.declared.BlockAt.{BlockAt}
-use Rattle.dirfile.specs.declared.BlockAt.TheVariants as BlockAt
-use Rattle.dirfile.specs.Block.{dir_block, bytes_at}
+use Rattle.dirfile.specs.Block.{dir_block, read_into}
 use Rattle.dirfile.proofs.BlockLaws.{block-long}
 use Rattle.dirnext.specs.declared.DirEntry.{DirEntry}
-use Rattle.dirnext.specs.declared.Next.{Next}
-use Rattle.dirnext.specs.declared.Next.TheVariants as Next
 use Rattle.dirnext.specs.Next.{is_listed, listed_from, Told, last, told_as, by_find, by_block, next_among, next_from, next_found, next_in, dir_next, next_of, next_answer, fetched, entry_name}
+use Rattle.refusal.specs.Refusal.{damage}
+use Rattle.refusal.specs.declared.Damage.{Damage}
 
 -- ---- one block
 
@@ -48,28 +43,17 @@ pub listed_start : (o : Order) (block : List ℕ) (pos : ℕ) → search_from is
 unfolding listed_from
 listed_start o block pos = refl
 
--- a block into the buffer
-module _ (img buf : List ℕ) (o : Out (List ℕ)) (b : BlockAt) (e : o ≡ bytes_at img b) where
-  pub fetch-at : (p : ℕ) → b ≡ BlockAt.At p → (new : List ℕ) → new ≡ put 0 (part 512 p img) buf → (new, true) ≡ fetched buf o
-  fetch-at p q new h = rw (h, e, q)
-
-  pub fetch-hole : b ≡ BlockAt.Hole → (new : List ℕ) → new ≡ put 0 (zeros 512) buf → (new, true) ≡ fetched buf o
-  fetch-hole q new h = rw (h, e, q)
-
-  pub fetch-bad : b ≡ BlockAt.Bad → (buf, false) ≡ fetched buf o
-  fetch-bad q = rw (e, q)
-
 -- ---- a record told: its type is a kind's number
 
 pub kind-number : (n : ℕ) → type_of (n * 4096) ≡ n
 unfolding type_of
 kind-number n = mul-div_left n (omega arith)
 
-module _ (k pos inr reclen namelen : ℕ) {kind : Kind} where
-  pub told_is : (t : InodeType) → kind ≡ Is t → Next.Entry (record { inr = inr; kind = t; from = pos + 8; len = namelen; next = k * 512 + pos + reclen }) ≡ next_of (told_as k pos inr reclen namelen kind)
+module _ (k pos inr reclen namelen : ℕ) {kind : (Option InodeType)} where
+  pub told_is : (t : InodeType) → kind ≡ Some t → Ok (Some (record { inr = inr; kind = t; from = pos + 8; len = namelen; next = k * 512 + pos + reclen })) ≡ next_of (told_as k pos inr reclen namelen kind)
   told_is t e = rw e
 
-  pub told-nameless : kind ≡ Nameless → Next.No Damaged ≡ next_of (told_as k pos inr reclen namelen kind)
+  pub told-nameless : kind ≡ None → Err Damaged ≡ next_of (told_as k pos inr reclen namelen kind)
   told-nameless e = rw e
 
 -- a type that a record may have is small
@@ -85,10 +69,16 @@ kind-small k h = ⊎_elim (λ l. l) (λ g. absurd (let y : ⊥ = large g in y)) 
         let z : ◌≡◌ {A = ℕ} 0 1 = cc in
         omega arith
 
-pub told_pair : (new : List ℕ) {x : List ℕ × Out Told} {o : Out Told} (r : Next) → r ≡ next_of o → x ≡ (new, o) → (new, r) ≡ next_answer x
+pub told_pair : (new : List ℕ) {x : List ℕ × Out Told} {o : Out Told} (r : Result (Option DirEntry) Refusal) → r ≡ next_of o → x ≡ (new, o) → (new, r) ≡ next_answer x
 told_pair new r h e = rw (e, h)
 
 -- ---- the blocks, upward: n in all
+
+-- what `read_block` leaves in the buffer's first 512 bytes
+pub fetch_told : (buf b : List ℕ) (ok : Bool) (o : Out (List ℕ)) → o ≡ read_into ok b → (ok ≡ false → b ≡ take 512 buf) → length b ≡ 512 → 512 ≤ length buf
+    → (b ++ drop 512 buf, ok) ≡ fetched buf o
+fetch_told buf b true o e f l h = rw e (ap (λ (xs : List ℕ). (xs, true)) (put-middle 0 512 b buf l h))
+fetch_told buf b false o e f l h = rw e (ap (λ (xs : List ℕ). (xs, false)) (ap (λ (xs : List ℕ). xs ++ drop 512 buf) (f refl) ∙ take-append-drop 512 buf))
 
 -- what the code is told of a block that it asked for
 pub record Fetched (buf new : List ℕ) (o : Out (List ℕ)) : Type 0 where
@@ -131,17 +121,17 @@ module _ (geo : Geometry) (at size : ℕ) (img : List ℕ) (n k pos : ℕ) (buf 
 
   -- what the block in the buffer says
   module _ (l : k < n) (new : List ℕ) (f : Fetched buf new (dir_block geo at size img k)) (whole : part 512 0 new ≡ f.block) where
-    among-block : (x : Find) → x ≡ listed_from geo.order (part 512 0 new) pos → next_among geo at size img (n - k) k pos buf ≡ by_find k new x (next_among geo at size img (n - (k + 1)) (k + 1) 0)
+    among-block : (x : Result (Option place.Spot) Damage) → x ≡ listed_from geo.order (part 512 0 new) pos → next_among geo at size img (n - k) k pos buf ≡ by_find k new x (next_among geo at size img (n - (k + 1)) (k + 1) 0)
     among-block x e = among-step l ∙ rw (f.is, ← f.there, ← whole, ← e)
 
-    among-told : (s : place.Spot) → Find.At s ≡ listed_from geo.order (part 512 0 new) pos → next_among geo at size img (n - k) k pos buf ≡ (new, told_as k s.pos s.entry.inr s.entry.reclen s.entry.namelen (kind_of s.entry.kind))
-    among-told s e = among-block (Find.At s) e
+    among-told : (s : place.Spot) → Ok (Some s) ≡ listed_from geo.order (part 512 0 new) pos → next_among geo at size img (n - k) k pos buf ≡ (new, told_as k s.pos s.entry.inr s.entry.reclen s.entry.namelen (kind_of s.entry.kind))
+    among-told s e = among-block (Ok (Some s)) e
 
-    among_next : Find.Absent ≡ listed_from geo.order (part 512 0 new) pos → next_among geo at size img (n - k) k pos buf ≡ next_among geo at size img (n - (k + 1)) (k + 1) 0 new
-    among_next e = among-block Find.Absent e
+    among_next : (Ok None) ≡ listed_from geo.order (part 512 0 new) pos → next_among geo at size img (n - k) k pos buf ≡ next_among geo at size img (n - (k + 1)) (k + 1) 0 new
+    among_next e = among-block (Ok None) e
 
-    among-bad : Find.Bad ≡ listed_from geo.order (part 512 0 new) pos → next_among geo at size img (n - k) k pos buf ≡ (new, refused Damaged)
-    among-bad e = among-block Find.Bad e
+    among-bad : (Err damage) ≡ listed_from geo.order (part 512 0 new) pos → next_among geo at size img (n - k) k pos buf ≡ (new, refused Damaged)
+    among-bad e = among-block (Err damage) e
 
 -- one turn of the code: the block that it fetched
 module _ (geo : Geometry) (img : List ℕ) (fr : Frame geo img) (at size n k pos : ℕ) (buf : List ℕ) (l : k < n) (inside : k * 512 + 512 ≤ size) (wide : 512 ≤ length buf) (new : List ℕ) (ok : Bool) (e : (new, ok) ≡ fetched buf (dir_block geo at size img k)) (h : ok ≡ true) where
@@ -151,13 +141,13 @@ module _ (geo : Geometry) (img : List ℕ) (fr : Frame geo img) (at size n k pos
   turn-first : part 512 0 new ≡ turn.block
   turn-first = block-first buf new (dir_block geo at size img k) turn (block-long geo img fr at size k inside turn.block turn.is) wide
 
-  pub turn-told : (s : place.Spot) → Find.At s ≡ listed_from geo.order (part 512 0 new) pos → next_among geo at size img (n - k) k pos buf ≡ (new, told_as k s.pos s.entry.inr s.entry.reclen s.entry.namelen (kind_of s.entry.kind))
+  pub turn-told : (s : place.Spot) → Ok (Some s) ≡ listed_from geo.order (part 512 0 new) pos → next_among geo at size img (n - k) k pos buf ≡ (new, told_as k s.pos s.entry.inr s.entry.reclen s.entry.namelen (kind_of s.entry.kind))
   turn-told = among-told geo at size img n k pos buf l new turn turn-first
 
-  pub turn-next : Find.Absent ≡ listed_from geo.order (part 512 0 new) pos → next_among geo at size img (n - k) k pos buf ≡ next_among geo at size img (n - (k + 1)) (k + 1) 0 new
+  pub turn-next : (Ok None) ≡ listed_from geo.order (part 512 0 new) pos → next_among geo at size img (n - k) k pos buf ≡ next_among geo at size img (n - (k + 1)) (k + 1) 0 new
   turn-next = among_next geo at size img n k pos buf l new turn turn-first
 
-  pub turn-bad : Find.Bad ≡ listed_from geo.order (part 512 0 new) pos → next_among geo at size img (n - k) k pos buf ≡ (new, refused Damaged)
+  pub turn-bad : (Err damage) ≡ listed_from geo.order (part 512 0 new) pos → next_among geo at size img (n - k) k pos buf ≡ (new, refused Damaged)
   turn-bad = among-bad geo at size img n k pos buf l new turn turn-first
 
 pub from_start : (geo : Geometry) (at size : ℕ) (img : List ℕ) (cur : ℕ) (buf : List ℕ) → next_among geo at size img (size / 512 - cur / 512) (cur / 512) (cur % 512) buf ≡ next_from geo at size img cur buf
@@ -169,7 +159,7 @@ pub record InBlock (pos : ℕ) (e : Entry) : Type 0 where
   pub ends : pos + e.reclen ≤ 512
   pub small : e.kind < 16
 
-pub told_inside : (o : Order) (block : List ℕ) (pos : ℕ) (s : place.Spot) → length block ≡ 512 → Find.At s ≡ listed_from o block pos → InBlock s.pos s.entry
+pub told_inside : (o : Order) (block : List ℕ) (pos : ℕ) (s : place.Spot) → length block ≡ 512 → Ok (Some s) ≡ listed_from o block pos → InBlock s.pos s.entry
 unfolding listed_from
 told_inside o block pos s l e =
     let f = found is_listed o block s pos pos (sym e) in

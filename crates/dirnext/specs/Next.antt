@@ -1,26 +1,25 @@
 -- 01, "Directory records and attributes": the cursor that stands for dir_iter. Assumes nothing: these are definitions.
-use Rattle.std.specs.Prelude.{Bool, true, false, List, [], ℕ, zero, suc, ◌+◌, ◌-◌, ◌*◌, ◌/◌, ◌%◌, length, eqb, ltb, leb}
+use Rattle.std.specs.Prelude.{Bool, true, false, List, [], ℕ, zero, suc, ◌+◌, ◌-◌, ◌*◌, ◌/◌, ◌%◌, length, eqb, ltb, leb, Option, Some, None, Result, Ok, Err}
 use Rattle.field.specs.Field.{put, part}
 use Rattle.field.specs.declared.Order.{Order}
 use Rattle.refusal.specs.declared.Refusal.TheVariants.{Damaged, NotDirectory, BufferTooSmall}
 use Rattle.store.specs.Act.{Out, got, refused}
 use Rattle.volume.specs.declared.Geometry.{Geometry}
-use Rattle.inode.specs.declared.Kind.{Kind}
-use Rattle.inode.specs.declared.Kind.TheVariants.{Is, Nameless}
 use Rattle.inode.specs.Size.{pick}
 use Rattle.inode.specs.Shape.{is_dir}
 use Rattle.inode.specs.Kind.{kind_of}
 use Rattle.inode_run.specs.declared.Spot.{Spot}
 use Rattle.inode_read.specs.Calls.{Place, place_in}
-use Rattle.dirblock.specs.declared.Find.{Find}
-use Rattle.dirblock.specs.declared.Find.TheVariants as Find
 use Rattle.dirblock.specs.Record.{listed}
 use Rattle.dirblock.specs.Search.{search_from}
 use Rattle.dirblock.specs.Walk.{Item}
 use Rattle.dirfile.specs.Block.{dir_block}
 use Rattle.dirnext.specs.declared.DirEntry.{DirEntry}
-use Rattle.dirnext.specs.declared.Next.{Next}
-use Rattle.dirnext.specs.declared.Next.TheVariants as Next
+use Rattle.dirblock.specs.declared.Spot as place
+use Rattle.inode.specs.declared.InodeType.{InodeType}
+use Rattle.refusal.specs.Refusal.{damage}
+use Rattle.refusal.specs.declared.Damage.{Damage}
+use Rattle.refusal.specs.declared.Refusal.{Refusal}
 
 -- ---- one block
 
@@ -28,7 +27,7 @@ abbrev pub is_listed : Item → Bool
 is_listed i = listed i.entry
 
 -- "Type 14 is not listed by dir_iter": the first record from pos on that is
-unfoldable pub listed_from : Order → List ℕ → ℕ → Find
+unfoldable pub listed_from : Order → List ℕ → ℕ → Result (Option place.Spot) Damage
 listed_from o block pos = search_from is_listed o block pos pos
 
 -- ---- the blocks, upward
@@ -39,14 +38,14 @@ pub data Told : Type 0 where
   last : Told
 
 -- "Names .. are handed back as parts of a lent buffer": inode, kind, where the name lies in the block, and the place behind the record
-abbrev pub told_as : ℕ → ℕ → ℕ → ℕ → ℕ → Kind → Out Told
-told_as k pos inr reclen namelen (Is t) = got (entry (record { inr = inr; kind = t; from = pos + 8; len = namelen; next = k * 512 + pos + reclen }))
-told_as k pos inr reclen namelen Nameless = refused Damaged
+abbrev pub told_as : ℕ → ℕ → ℕ → ℕ → ℕ → Option InodeType → Out Told
+told_as k pos inr reclen namelen (Some t) = got (entry (record { inr = inr; kind = t; from = pos + 8; len = namelen; next = k * 512 + pos + reclen }))
+told_as k pos inr reclen namelen None = refused Damaged
 
-abbrev pub by_find : ℕ → List ℕ → Find → (List ℕ → List ℕ × Out Told) → List ℕ × Out Told
-by_find k buf (Find.At s) next = (buf, told_as k s.pos s.entry.inr s.entry.reclen s.entry.namelen (kind_of s.entry.kind))
-by_find k buf Find.Absent next = next buf
-by_find k buf Find.Bad next = (buf, refused Damaged)
+abbrev pub by_find : ℕ → List ℕ → Result (Option place.Spot) Damage → (List ℕ → List ℕ × Out Told) → List ℕ × Out Told
+by_find k buf (Ok (Some s)) next = (buf, told_as k s.pos s.entry.inr s.entry.reclen s.entry.namelen (kind_of s.entry.kind))
+by_find k buf (Ok None) next = next buf
+by_find k buf (Err harm) next = (buf, refused Damaged)
 
 -- a block that is read stands in the buffer from then on; one that cannot be read leaves it
 abbrev pub by_block : Order → ℕ → ℕ → List ℕ → Out (List ℕ) → (List ℕ → List ℕ × Out Told) → List ℕ × Out Told
@@ -82,12 +81,12 @@ dir_next img i cur buf = next_in img cur buf (place_in img i)
 
 -- ---- the code's answers
 
-abbrev pub next_of : Out Told → Next
-next_of (got (entry e)) = Next.Entry e
-next_of (got last) = Next.End
-next_of (refused e) = Next.No e
+abbrev pub next_of : Out Told → Result (Option DirEntry) Refusal
+next_of (got (entry e)) = Ok (Some e)
+next_of (got last) = Ok None
+next_of (refused e) = Err e
 
-abbrev pub next_answer : List ℕ × Out Told → List ℕ × Next
+abbrev pub next_answer : List ℕ × Out Told → List ℕ × Result (Option DirEntry) Refusal
 next_answer p = (p.0, next_of p.1)
 
 -- a block read into the buffer, or not

@@ -1,4 +1,5 @@
 -- The laws of `specs/Other.antt`. Assumes nothing.
+use Rattle.std.specs.Prelude.{None, Ok}
 use mathlib.Core.Path.{◌≡◌, refl, sym, ap, ◌∙◌}
 use mathlib.Core.Bool.{Bool, true, false, ◌&&◌, ◌||◌}
 use mathlib.Core.List.{List, [], ◌∷◌}
@@ -11,7 +12,6 @@ use Rattle.field.specs.Field.{zeros}
 use Rattle.field.proofs.Laws.{length-part, part-is}
 use Rattle.volume.specs.declared.Geometry.{Geometry}
 use Rattle.dirblock.specs.declared.Entry.{Entry}
-use Rattle.dirblock.specs.declared.Find.TheVariants as Find
 use Rattle.dirblock.specs.Record.{name_at}
 use Rattle.dirblock.specs.Search.{search_from, same_name}
 use Rattle.dirblock.proofs.SearchLaws.{search-end, other-name}
@@ -74,7 +74,7 @@ unfolding other_in
 other_start o block = refl
 
 -- a block of zeros holds none
-pub other-zeros : (o : Order) → other_in o (zeros 512) ≡ Find.Absent
+pub other-zeros : (o : Order) → other_in o (zeros 512) ≡ Ok None
 other-zeros o = sym (other_start o (zeros 512)) ∙ search-end (stays (zeros 512)) o (zeros 512) 0 0 (zeros-end o)
 
 -- ---- a directory

@@ -1,4 +1,5 @@
 -- What rmdir's test promises: it reads the blocks of the directory and nothing else, it asks what a walk shows, and a new directory passes it. Assumes nothing.
+use Rattle.std.specs.Prelude.{Some, Ok}
 use mathlib.Core.Path.{◌≡◌, refl, sym, ap₂, ◌∙◌}
 use mathlib.Core.Bool.{Bool, true, false, not, ◌&&◌}
 use mathlib.Core.List.{List, [], ◌∷◌}
@@ -6,8 +7,6 @@ use Prim.Native.Nat.{ℕ, ◌^◌, ◌%◌, ◌<◌}
 use lib.Dec.{eqb}
 use Rattle.field.specs.declared.Order.{Order}
 use Rattle.volume.specs.declared.Geometry.{Geometry}
-use Rattle.dirblock.specs.declared.Find.{Find}
-use Rattle.dirblock.specs.declared.Find.TheVariants as Find
 use Rattle.dirblock.specs.Record.{listed}
 use Rattle.dirblock.specs.Walk.{Item, Stop, ended, damaged, walk_from}
 use Rattle.dirblock.specs.Search.{pick_find, search_among, search_from, same_name}
@@ -52,7 +51,7 @@ kept-shown block prev [] (damaged at) = refl
 kept-shown block prev (i ∷ is) s = go (stays block i) (kept-shown block i.pos is s)
   where
     go : (t : Bool) → stayed_in (search_among (stays block) i.pos is s) ≡ kept_among (shown_all block is) (health_of s)
-        → stayed_in (pick_find t (Find.At (record { pos = i.pos; prev = prev; entry = i.entry })) (search_among (stays block) i.pos is s)) ≡ pick_kept t (here (tt {0})) (kept_among (shown_all block is) (health_of s))
+        → stayed_in (pick_find t (Ok (Some (record { pos = i.pos; prev = prev; entry = i.entry }))) (search_among (stays block) i.pos is s)) ≡ pick_kept t (here (tt {0})) (kept_among (shown_all block is) (health_of s))
     go true f = refl
     go false f = f
 

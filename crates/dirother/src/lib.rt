@@ -8,18 +8,10 @@ ghost use Rattle.dirfile.specs.Block.{dir_block};
 ghost use Rattle.dirfile.specs.Seek.{in_block};
 ghost use Rattle.dirother.specs.Other.{dots, stays, other_in, stayed_in, others_dir, others_out};
 
-use dirblock::{Entry, Find, Rec, Spot};
-use dirfile::BlockAt;
+use dirblock::{Entry, Spot};
 use field::Order;
+use refusal::Damage;
 use volume::Geometry;
-
-// Whether a directory holds another record: not empty, empty, or damaged before any such record.
-#[derive(Clone, Copy)]
-pub enum Others {
-    Some,
-    None,
-    Bad,
-}
 
 // Whether the record at pos is named "." or "..".
 fn is_dots(block: &[u8], pos: usize, e: Entry) -> bool
@@ -44,76 +36,38 @@ fn is_other(block: &[u8], pos: usize, e: Entry) -> bool
 }
 
 // The first record of a block that is neither.
-fn other_in(o: Order, block: &[u8]) -> Find
+fn other_in(o: Order, block: &[u8]) -> Result<Option<Spot>, Damage>
     ensures { result ≡ other_in o block.now }
 {
-    let mut prev = 0;
-    let mut pos = 0;
-    loop {
-        let rec = dirblock::rec_at(o, block, pos);
-        match rec {
-            Rec::Used(e) => {
-                if is_other(block, pos, e) {
-                    return Find::At(Spot {
-                        pos,
-                        prev,
-                        entry: e,
-                    });
-                }
-                prev = pos;
-                pos += e.reclen as usize;
-            }
-            Rec::Unused(e) => {
-                pos += e.reclen as usize;
-            }
-            Rec::End => {
-                return Find::Absent;
-            }
-            Rec::Bad => {
-                return Find::Bad;
-            }
-        }
-    }
+    dirblock_search::search_from(o, block, 0, |pos, e| is_other(block, pos, e))
 }
 
 // The search in block k.
-fn other_block(img: &[u8], geo: Geometry, at: usize, size: u64, k: u64) -> Others
+fn other_block(img: &[u8], geo: Geometry, at: usize, size: u64, k: u64) -> Result<bool, Damage>
     requires { Frame geo img.now × (at + 256 ≤ length img.now) × (k * 512 + 512 ≤ size) }
     ensures { others_out result ≡ in_block (dir_block geo at size img.now k) (λ b. stayed_in (other_in geo.order b)) }
 {
     let o = geo.order;
-    match dirfile::block_at(img, geo, at, size, k) {
-        BlockAt::At(p) => match other_in(o, &img[p..p + 512]) {
-            Find::At(s) => Others::Some,
-            Find::Absent => Others::None,
-            Find::Bad => Others::Bad,
-        },
-        BlockAt::Hole => Others::None,
-        BlockAt::Bad => Others::Bad,
-    }
+    let Some(p) = dirfile::block_at(img, geo, at, size, k)? else {
+        return Ok(false);
+    };
+    let other = other_in(o, &img[p..p + 512])?;
+    Ok(other.is_some())
 }
 
-// rmdir's test: the blocks upward, up to the first that holds another record.
-pub fn others_dir(img: &[u8], geo: Geometry, at: usize, size: u64) -> Others
+// rmdir's test, whether there is another record: the blocks upward, up to the first that holds one.
+pub fn others_dir(img: &[u8], geo: Geometry, at: usize, size: u64) -> Result<bool, Damage>
     requires { Frame geo img.now × (at + 256 ≤ length img.now) }
     ensures { others_out result ≡ others_dir geo at size img.now }
 {
     if !(size % 512 == 0) {
-        return Others::Bad;
+        return Err(Damage);
     }
     let n = size / 512;
-    let mut k = 0;
-    while k < n {
-        match other_block(img, geo, at, size, k) {
-            Others::Some => {
-                return Others::Some;
-            }
-            Others::None => {}
-            Others::Bad => {
-                return Others::Bad;
-            }
+    for k in 0..n {
+        if other_block(img, geo, at, size, k)? {
+            return Ok(true);
         }
-        k += 1;
     }
-    Others::None
+    Ok(false)
 }

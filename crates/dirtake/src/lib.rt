@@ -7,17 +7,14 @@ ghost use Rattle.frame.specs.Frame.{Frame};
 ghost use Rattle.inode_setblock.specs.Set.{written_out};
 ghost use Rattle.dirtake.specs.Take.{take_name};
 
-use dirlink::Gone;
-use inode_setblock::Written;
+use refusal::Refusal;
 use volume::{Geometry, InodeNum};
 
 // The name goes, then its inode loses a link.
-pub fn take_name(img: &mut [u8], geo: Geometry, dinr: InodeNum, name: &[u8]) -> Written
+pub fn take_name(img: &mut [u8], geo: Geometry, dinr: InodeNum, name: &[u8]) -> Result<(), Refusal>
     requires { Frame geo img.old }
     ensures { (img.new, written_out result) ≡ leaves (take_name geo dinr.0 name.now) img.old }
 {
-    match dirlink::unlink_name(img, geo, dinr, name) {
-        Gone::Inode(i) => dirwrite::free_found(img, geo, InodeNum(i)),
-        Gone::No(e) => Written::No(e),
-    }
+    let i = dirlink::unlink_name(img, geo, dinr, name)?;
+    dirwrite::free_found(img, geo, InodeNum(i))
 }

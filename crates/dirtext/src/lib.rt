@@ -2,10 +2,10 @@
 #![tactic(auto)]
 
 ghost use Rattle.std.specs.Prelude.{◌≡◌, [], ◌∷◌, ◌++◌, ◌+◌, ◌*◌, ◌≤◌, ◌<◌, length};
-ghost use Rattle.field.specs.Field.{part, put};
+ghost use Rattle.field.specs.Field.{part};
 ghost use Rattle.dirblock.specs.Record.{name_at};
-ghost use Rattle.dirblock.specs.Walk.{ended, damaged, walk_from};
-ghost use Rattle.dirtext.specs.Text.{decimal_text, glyph_of, hex_text, name_text, spaced, line_text, stop_text, walk_text, dirlist_text, end_word, damage_word, wrote};
+ghost use Rattle.dirblock.specs.Walk.{walk_from};
+ghost use Rattle.dirtext.specs.Text.{decimal_text, glyph_of, hex_text, name_text, spaced, line_text, walk_text, dirlist_text, wrote};
 
 use dirblock::{Entry, Rec};
 use field::Order;
@@ -60,12 +60,10 @@ fn put_hex(out: &mut [u8], at: usize, block: &[u8], from: usize, n: usize) -> us
     ensures { (out.new, result) ≡ wrote at (hex_text (part n from block.now)) out.old }
 {
     let mut end = at;
-    let mut i = 0;
-    while i < n {
+    for i in 0..n {
         let b = block[from + i];
         let high = put_byte(out, end, glyph(b / 16));
         end = put_byte(out, high, glyph(b % 16));
-        i += 1;
     }
     end
 }
@@ -111,6 +109,7 @@ fn list_block(o: Order, block: &[u8], out: &mut [u8]) -> usize
 {
     let mut at = 0;
     let mut pos = 0;
+    // Not a `for`: the step is the record's length.
     loop {
         let rec = dirblock::rec_at(o, block, pos);
         match rec {

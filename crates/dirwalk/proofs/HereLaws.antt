@@ -1,4 +1,5 @@
 -- What a search that answers a place says of it: the block is one of the directory's, and it was read. A caller goes on from there. Assumes nothing.
+use Rattle.std.specs.Prelude.{Option, Some, None, Result, Ok, Err}
 use mathlib.Core.Path.{◌≡◌, refl, sym, ap, subst, ◌∙◌}
 use mathlib.Core.Bool.{Bool, true, false}
 use mathlib.Core.List.{List}
@@ -9,8 +10,6 @@ use borrow.Author.Tests.{eqb-true, eqb-false}
 use Rattle.store.specs.Act.{Out, got, refused}
 use Rattle.volume.specs.declared.Geometry.{Geometry}
 use Rattle.dirblock.specs.declared.Entry.{Entry}
-use Rattle.dirblock.specs.declared.Room.{Room}
-use Rattle.dirblock.specs.declared.Room.TheVariants as Room
 use Rattle.dirblock.specs.declared.Unlinked.{Unlinked}
 use Rattle.dirblock.specs.declared.Unlinked.TheVariants as Unlinked
 use Rattle.dirblock.specs.Search.{room_in}
@@ -21,6 +20,8 @@ use Rattle.dirfile.proofs.SeekLaws.{said, seek-end, seek-here, seek-hurt, seek-n
 use Rattle.dirwalk.specs.declared.Hit.{Hit}
 use Rattle.dirwalk.specs.Walk.{seen_in, find_dir, roomy_in, room_dir}
 use Rattle.dirwalk.proofs.WalkLaws.{finds, rooms}
+use Rattle.refusal.specs.Refusal.{damage}
+use Rattle.refusal.specs.declared.Damage.{Damage}
 
 module _ (geo : Geometry) (at size : ℕ) (img : List ℕ) where
   -- block k, whole and read, answers a
@@ -70,11 +71,11 @@ module _ (geo : Geometry) (at size : ℕ) (img : List ℕ) where
     pub read : dir_block geo at size img h.block ≡ got bytes
     pub says : seen_in h.block (unlink_in geo.order bytes name).1 ≡ here h
 
-  same_block : (k : ℕ) (u : Unlinked) (h : Hit) → seen_in k u ≡ here h → k ≡ h.block
-  same_block k (Unlinked.Done i) h q = let r : record { block = k; inr = i; alone = false } ≡ h = cc in ap (λ (x : Hit). x.block) r
-  same_block k (Unlinked.Alone i) h q = let r : record { block = k; inr = i; alone = true } ≡ h = cc in ap (λ (x : Hit). x.block) r
-  same_block k Unlinked.Absent h q = absurd (let z : ◌≡◌ {A = ℕ} 0 1 = cc in let y : ⊥ = omega arith in y)
-  same_block k Unlinked.Bad h q = absurd (let z : ◌≡◌ {A = ℕ} 0 1 = cc in let y : ⊥ = omega arith in y)
+  same_block : (k : ℕ) (u : Result Unlinked Damage) (h : Hit) → seen_in k u ≡ here h → k ≡ h.block
+  same_block k (Ok (Unlinked.Done i)) h q = let r : record { block = k; inr = i; alone = false } ≡ h = cc in ap (λ (x : Hit). x.block) r
+  same_block k (Ok (Unlinked.Alone i)) h q = let r : record { block = k; inr = i; alone = true } ≡ h = cc in ap (λ (x : Hit). x.block) r
+  same_block k (Ok Unlinked.Absent) h q = absurd (let z : ◌≡◌ {A = ℕ} 0 1 = cc in let y : ⊥ = omega arith in y)
+  same_block k (Err harm) h q = absurd (let z : ◌≡◌ {A = ℕ} 0 1 = cc in let y : ⊥ = omega arith in y)
 
   pub find-here : (name : List ℕ) (h : Hit) → find_dir geo at size img name ≡ here h → HitAt name h
   unfolding find_dir
@@ -96,7 +97,7 @@ module _ (geo : Geometry) (at size : ℕ) (img : List ℕ) where
     pub read : dir_block geo at size img k ≡ got bytes
     pub pos : ℕ
     pub entry : Entry
-    pub room : room_in geo.order bytes n ≡ Room.At pos entry
+    pub room : room_in geo.order bytes n ≡ Ok (Some (pos, entry))
 
   pub room-here : (n k : ℕ) → room_dir geo at size img n ≡ here k → RoomIn n k
   unfolding room_dir
@@ -105,9 +106,9 @@ module _ (geo : Geometry) (at size : ℕ) (img : List ℕ) where
       w : Answers (rooms geo n) k
       w = answers (rooms geo n) k q
 
-      go : (r : Room) → room_in geo.order w.bytes n ≡ r → roomy_in w.k r ≡ here k → RoomIn n k
-      go (Room.At pos e) h x =
+      go : (r : Result (Option (ℕ × Entry)) Damage) → room_in geo.order w.bytes n ≡ r → roomy_in w.k r ≡ here k → RoomIn n k
+      go (Ok (Some (pos, e))) h x =
           let j : w.k ≡ k = cc in
           record { bytes = w.bytes; inside = subst (λ (i : ℕ). i * 512 + 512 ≤ size) j w.inside; read = subst (λ (i : ℕ). dir_block geo at size img i ≡ got w.bytes) j w.read; pos = pos; entry = e; room = h }
-      go Room.Full h x = absurd (let z : ◌≡◌ {A = ℕ} 0 1 = cc in let y : ⊥ = omega arith in y)
-      go Room.Bad h x = absurd (let z : ◌≡◌ {A = ℕ} 0 1 = cc in let y : ⊥ = omega arith in y)
+      go (Ok None) h x = absurd (let z : ◌≡◌ {A = ℕ} 0 1 = cc in let y : ⊥ = omega arith in y)
+      go (Err harm) h x = absurd (let z : ◌≡◌ {A = ℕ} 0 1 = cc in let y : ⊥ = omega arith in y)

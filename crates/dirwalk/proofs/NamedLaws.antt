@@ -1,4 +1,5 @@
 -- The two searches of a block by name, with and without whiteouts, compared: they find the same record unless a whiteout of that name comes first. Assumes nothing.
+use Rattle.std.specs.Prelude.{Option, Some, Result, Ok, Err}
 use mathlib.Core.Path.{◌≡◌, refl, sym, ap, ◌∙◌}
 use mathlib.Core.Bool.{Bool, true, false, ◌&&◌}
 use mathlib.Core.List.{List}
@@ -13,8 +14,6 @@ use Rattle.dirblock.specs.declared.Entry.{Entry}
 use Rattle.dirblock.specs.declared.Rec.{Rec}
 use Rattle.dirblock.specs.declared.Rec.TheVariants as Rec
 use Rattle.dirblock.specs.declared.Spot.{Spot}
-use Rattle.dirblock.specs.declared.Find.{Find}
-use Rattle.dirblock.specs.declared.Find.TheVariants as Find
 use Rattle.dirblock.specs.Record.{rec_at, name_at, listed, findable}
 use Rattle.dirblock.specs.Walk.{Item}
 use Rattle.dirblock.specs.Search.{search_from, same_name, named, find_in}
@@ -26,6 +25,8 @@ use Rattle.dirfile.specs.Seek.{Sought, here, hurt}
 use Rattle.dirwalk.specs.declared.Hit.{Hit}
 use Rattle.dirwalk.specs.Walk.{seen_in}
 use Rattle.dirwalk.proofs.UnlinkLaws.{answer-next, answer-alone, answer-hurt, answer-later}
+use Rattle.refusal.specs.Refusal.{damage}
+use Rattle.refusal.specs.declared.Damage.{Damage}
 
 module _ (o : Order) (block name : List ℕ) where
   -- both tests answer alike, unless the record is a whiteout of that name
@@ -39,11 +40,11 @@ module _ (o : Order) (block name : List ℕ) where
       go false h false = inl refl
 
   -- the search with whiteouts stops at one, and the other search, whose answer is x, goes on behind it
-  pub record Earlier (x y : Find) : Type 0 where
+  pub record Earlier (x y : Result (Option Spot) Damage) : Type 0 where
     pub spot : Spot
-    pub found : y ≡ Find.At spot
+    pub found : y ≡ Ok (Some spot)
     pub white : listed spot.entry ≡ false
-    pub next : rec_at o block (spot.pos + spot.entry.reclen) ≡ Rec.Bad → x ≡ Find.Bad
+    pub next : rec_at o block (spot.pos + spot.entry.reclen) ≡ Rec.Bad → x ≡ Err damage
 
   abbrev Compared : ℕ → ℕ → Type 0
   Compared prev pos =
@@ -93,7 +94,7 @@ pub record Hits (i : ℕ) (x : Sought Hit) : Type 0 where
   pub seen : x ≡ here hit
   pub inode : hit.inr ≡ i
 
-module _ (o : Order) (block name : List ℕ) (k : ℕ) (s : Spot) (h : find_in o block name true ≡ Find.At s) where
+module _ (o : Order) (block name : List ℕ) (k : ℕ) (s : Spot) (h : find_in o block name true ≡ Ok (Some s)) where
   -- it is found, unless it is the first of its block and damage stands behind it
   abbrev pub Told : Type 0
   Told = Hits s.entry.inr (seen_in k (unlink_in o block name).1) ⊎ ((seen_in k (unlink_in o block name).1 ≡ hurt) × (s.pos ≡ 0) × (rec_at o block s.entry.reclen ≡ Rec.Bad))

@@ -1,4 +1,5 @@
 -- What the three searches of a directory promise together: they read its blocks and nothing else, refuse an odd size, and unlinking misses no name that a lookup finds. Assumes nothing.
+use Rattle.std.specs.Prelude.{Option, Some, None, Result, Ok, Err}
 use mathlib.Core.Path.{◌≡◌, refl, sym, ap, ap₂, subst, ◌∙◌}
 use mathlib.Core.Bool.{Bool, true, false}
 use mathlib.Core.List.{List}
@@ -13,8 +14,6 @@ use Rattle.volume.specs.declared.Geometry.{Geometry}
 use Rattle.dirblock.specs.declared.Entry.{Entry}
 use Rattle.dirblock.specs.declared.Rec.TheVariants.{Used, Bad}
 use Rattle.dirblock.specs.declared.Spot.{Spot}
-use Rattle.dirblock.specs.declared.Find.{Find}
-use Rattle.dirblock.specs.declared.Find.TheVariants as Find
 use Rattle.dirblock.specs.Record.{rec_at, listed}
 use Rattle.dirblock.specs.Search.{find_in}
 use Rattle.dirblock.specs.Link.{unlink_in}
@@ -27,6 +26,8 @@ use Rattle.dirwalk.specs.Walk.{looked_in, lookup_dir, seen_in, find_dir, room_di
 use Rattle.dirwalk.proofs.UnlinkLaws.{answer-absent}
 use Rattle.dirwalk.proofs.WalkLaws.{looks, finds, rooms, lookup-start, lookup-odd, find_start, find-odd, room-odd}
 use Rattle.dirwalk.proofs.NamedLaws.{Earlier, find-compared, Hits, Told, unlink-told}
+use Rattle.refusal.specs.Refusal.{damage}
+use Rattle.refusal.specs.declared.Damage.{Damage}
 
 -- ---- "a size that is no multiple is 97", before any block is read
 
@@ -90,7 +91,7 @@ module _ (geo : Geometry) (at size : ℕ) (img name : List ℕ) where
     pub bytes : List ℕ
     pub block : Block k bytes
     pub spot : Spot
-    pub found : find_in geo.order bytes name true ≡ Find.At spot
+    pub found : find_in geo.order bytes name true ≡ Ok (Some spot)
     pub white : listed spot.entry ≡ false
     pub hits : Hits spot.entry.inr x
 
@@ -129,14 +130,14 @@ module _ (geo : Geometry) (at size : ℕ) (img name : List ℕ) where
 
     -- where the search with whiteouts stops at one: the lookup went on, so no damage stands behind it
     at-whiteout : Earlier geo.order bytes name (find_in geo.order bytes name false) (find_in geo.order bytes name true)
-        → (find_in geo.order bytes name false ≡ Find.Bad → ⊥) → Found i (seek_from sought (size / 512 - k) k)
+        → (find_in geo.order bytes name false ≡ Err damage → ⊥) → Found i (seek_from sought (size / 512 - k) k)
     at-whiteout w fine = go (unlink-told geo.order bytes name k w.spot w.found)
       where
         go : Told geo.order bytes name k w.spot w.found → Found i (seek_from sought (size / 512 - k) k)
         go (inl h) = inr (inl (record { k = k; bytes = bytes; block = b; spot = w.spot; found = w.found; white = w.white; hits = lift-hits w.spot.entry.inr h }))
         go (inr (e, z, q)) = absurd (fine (w.next (rw (z, zero-add w.spot.entry.reclen) q)))
 
-    at-found : (s : Spot) → find_in geo.order bytes name true ≡ Find.At s → s.entry.inr ≡ i → Found i (seek_from sought (size / 512 - k) k)
+    at-found : (s : Spot) → find_in geo.order bytes name true ≡ Ok (Some s) → s.entry.inr ≡ i → Found i (seek_from sought (size / 512 - k) k)
     at-found s h q = go (unlink-told geo.order bytes name k s h)
       where
         go : Told geo.order bytes name k s h → Found i (seek_from sought (size / 512 - k) k)
@@ -148,23 +149,23 @@ module _ (geo : Geometry) (at size : ℕ) (img name : List ℕ) where
         → Found i (seek_from sought (size / 512 - k) k)
     turn q rest = go (find_in geo.order bytes name false) refl (find-compared geo.order bytes name)
       where
-        says : (x : Find) → find_in geo.order bytes name false ≡ x → looked k ≡ looked_in x
+        says : (x : Result (Option Spot) Damage) → find_in geo.order bytes name false ≡ x → looked k ≡ looked_in x
         says x h = ap (λ (d : Out (List ℕ)). in_block d (looks geo name k)) b.read ∙ ap looked_in h
 
-        go : (x : Find) → find_in geo.order bytes name false ≡ x
+        go : (x : Result (Option Spot) Damage) → find_in geo.order bytes name false ≡ x
             → (find_in geo.order bytes name false ≡ find_in geo.order bytes name true) ⊎ Earlier geo.order bytes name (find_in geo.order bytes name false) (find_in geo.order bytes name true)
             → Found i (seek_from sought (size / 512 - k) k)
-        go (Find.At s) h (inl same) =
-            let r : here s.entry.inr ≡ here i = sym (seek-here looked (size / 512) k b.inside s.entry.inr (says (Find.At s) h)) ∙ q in
+        go (Ok (Some s)) h (inl same) =
+            let r : here s.entry.inr ≡ here i = sym (seek-here looked (size / 512) k b.inside s.entry.inr (says (Ok (Some s)) h)) ∙ q in
             let e : s.entry.inr ≡ i = cc in
             at-found s (sym same ∙ h) e
-        go (Find.At s) h (inr w) = at-whiteout w (λ d. let r : Find.At s ≡ Find.Bad = sym h ∙ d in let z : ◌≡◌ {A = ℕ} 0 1 = cc in let y : ⊥ = omega arith in y)
-        go Find.Absent h (inl same) =
+        go (Ok (Some s)) h (inr w) = at-whiteout w (λ d. let r : ◌≡◌ {A = Result (Option Spot) Damage} (Ok (Some s)) (Err damage) = sym h ∙ d in let z : ◌≡◌ {A = ℕ} 0 1 = cc in let y : ⊥ = omega arith in y)
+        go (Ok None) h (inl same) =
             subst (Found i)
             (sym (seek-next sought (size / 512) k b.inside (ap (λ (d : Out (List ℕ)). in_block d (finds geo name k)) b.read ∙ ap (seen_in k) (sym (answer-absent geo.order bytes name (sym same ∙ h))))))
-            (rest (sym (seek-next looked (size / 512) k b.inside (says Find.Absent h)) ∙ q))
-        go Find.Absent h (inr w) = at-whiteout w (λ d. let r : Find.Absent ≡ Find.Bad = sym h ∙ d in let z : ◌≡◌ {A = ℕ} 0 1 = cc in let y : ⊥ = omega arith in y)
-        go Find.Bad h x = absurd (let r : hurt ≡ here i = sym (seek-hurt looked (size / 512) k b.inside (says Find.Bad h)) ∙ q in let z : ◌≡◌ {A = ℕ} 0 1 = cc in let y : ⊥ = omega arith in y)
+            (rest (sym (seek-next looked (size / 512) k b.inside (says (Ok None) h)) ∙ q))
+        go (Ok None) h (inr w) = at-whiteout w (λ d. let r : ◌≡◌ {A = Result (Option Spot) Damage} (Ok None) (Err damage) = sym h ∙ d in let z : ◌≡◌ {A = ℕ} 0 1 = cc in let y : ⊥ = omega arith in y)
+        go (Err harm) h x = absurd (let r : hurt ≡ here i = sym (seek-hurt looked (size / 512) k b.inside (says (Err damage) h)) ∙ q in let z : ◌≡◌ {A = ℕ} 0 1 = cc in let y : ⊥ = omega arith in y)
 
   found_from : (i m k : ℕ) → size / 512 - k ≡ m → seek_from looked (size / 512 - k) k ≡ here i → Found i (seek_from sought (size / 512 - k) k)
   found_from i zero k e q =

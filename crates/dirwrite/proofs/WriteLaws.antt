@@ -1,4 +1,5 @@
 -- Laws of a directory's blocks written, moved and cut off: what each call leaves, case by case. Assumes nothing.
+use Rattle.std.specs.Prelude.{Result, Ok, Err, MatchResult, IsErrAnd}
 use mathlib.Core.Path.{◌≡◌, refl, sym, ap, ◌∙◌}
 use mathlib.Core.Bool.{Bool, true, false}
 use mathlib.Core.List.{List}
@@ -23,10 +24,13 @@ use Rattle.books.specs.Work.{damaged_out, or_damaged, given}
 use Rattle.books.proofs.KeepLaws.{work_left}
 use Rattle.ialloc_give.specs.Give.{bump}
 use Rattle.ialloc_free.specs.Free.{free_inode}
+use Rattle.inode_truncate.specs.Truncate.{truncated_out}
+use Rattle.inode_setblock.specs.Set.{written_out}
 use Rattle.truncate.specs.Call.{judged_work}
 use Rattle.inode_write.specs.Write.{write_at}
 use Rattle.dirfile.specs.Block.{dir_block, read_into}
 use Rattle.dirwrite.specs.Write.{link_block, unlink_block, sole_block, link_grown, move_block, close_up, cut_to, drop_block, bump_found, free_found}
+use Rattle.refusal.specs.declared.Damage.{Damage}
 
 -- ---- work that goes on with what was read, or ends there
 
@@ -53,11 +57,11 @@ module _ (geo : Geometry) (at size k : ℕ) (img : List ℕ) (ok : Bool) (b : Li
     unfolding link_block
     link-unread e = read-bad (λ x. dir_block geo at size x k) (λ b. write_at geo at size (k * 512) (link_in geo.order b inr kind name).0) img (read_no e)
 
-    pub link-read : ok ≡ true → (o : Order) → o ≡ geo.order → {c : List ℕ} {l : Linked} → (c, l) ≡ link_in o b inr kind name
+    pub link-read : ok ≡ true → (o : Order) → o ≡ geo.order → {c : List ℕ} {l : (Result Linked Damage)} → (c, l) ≡ link_in o b inr kind name
         → leaves (write_at geo at size (k * 512) c) img ≡ leaves (link_block geo at size k inr kind name) img
     unfolding link_block
     link-read e o q {c} {l} h =
-        let g : c ≡ (link_in geo.order b inr kind name).0 = ap (λ (p : List ℕ × Linked). p.0) h ∙ ap (λ (o : Order). (link_in o b inr kind name).0) q in
+        let g : c ≡ (link_in geo.order b inr kind name).0 = ap (λ (p : List ℕ × Result Linked Damage). p.0) h ∙ ap (λ (o : Order). (link_in o b inr kind name).0) q in
         ap (λ (c : List ℕ). leaves (write_at geo at size (k * 512) c) img) g
         ∙ read-good (λ x. dir_block geo at size x k) (λ b. write_at geo at size (k * 512) (link_in geo.order b inr kind name).0) img (read-yes e)
 
@@ -66,11 +70,11 @@ module _ (geo : Geometry) (at size k : ℕ) (img : List ℕ) (ok : Bool) (b : Li
     unfolding unlink_block
     unlink-unread e = read-bad (λ x. dir_block geo at size x k) (λ b. write_at geo at size (k * 512) (unlink_in geo.order b name).0) img (read_no e)
 
-    pub unlink-read : ok ≡ true → (o : Order) → o ≡ geo.order → {c : List ℕ} {l : Unlinked} → (c, l) ≡ unlink_in o b name
+    pub unlink-read : ok ≡ true → (o : Order) → o ≡ geo.order → {c : List ℕ} {l : (Result Unlinked Damage)} → (c, l) ≡ unlink_in o b name
         → leaves (write_at geo at size (k * 512) c) img ≡ leaves (unlink_block geo at size k name) img
     unfolding unlink_block
     unlink-read e o q {c} {l} h =
-        let g : c ≡ (unlink_in geo.order b name).0 = ap (λ (p : List ℕ × Unlinked). p.0) h ∙ ap (λ (o : Order). (unlink_in o b name).0) q in
+        let g : c ≡ (unlink_in geo.order b name).0 = ap (λ (p : List ℕ × Result Unlinked Damage). p.0) h ∙ ap (λ (o : Order). (unlink_in o b name).0) q in
         ap (λ (c : List ℕ). leaves (write_at geo at size (k * 512) c) img) g
         ∙ read-good (λ x. dir_block geo at size x k) (λ b. write_at geo at size (k * 512) (unlink_in geo.order b name).0) img (read-yes e)
 
@@ -101,6 +105,12 @@ module _ (m : Act (Unit {0})) (img : List ℕ) {x : List ℕ} {o : Out (Unit {0}
 
   pub work-stop : {f : Refusal} → o ≡ refused f → ◌≡◌ {A = Left (Unit {0})} (x, refused Damaged) (leaves (or_damaged m) img)
   work-stop e = ap (λ (p : Out (Unit {0})). (x, damaged_out p)) (sym e) ∙ work_left m img r
+
+pub work-told : (m : Act (Unit {0})) (img : List ℕ) (r q : Result (Unit {0}) Refusal) {x : List ℕ} {P : Refusal → Refusal → Type 0} → (x, truncated_out r) ≡ leaves m img
+    → MatchResult r (λ u. q ≡ Ok u) (λ e. IsErrAnd q (P e)) → ((e f : Refusal) → P e f → f ≡ Damaged) → (x, written_out q) ≡ leaves (or_damaged m) img
+work-told m img (Ok u) q w h p = rw h (work-done m img w refl)
+work-told m img (Err e) (Ok u) w h p = absurd h
+work-told m img (Err e) (Err f) w h p = rw (p e f h) (work-stop m img w refl)
 
 module _ (geo : Geometry) (s : Spot) (inr kind : ℕ) (name img : List ℕ) (new : ℕ) {x : List ℕ} {o : Out (Unit {0})} (r : (x, o) ≡ leaves (or_damaged (judged_work geo s.at s.shape new)) img) (n : new ≡ s.shape.size + 512) where
   grown : (x, o) ≡ leaves (or_damaged (judged_work geo s.at s.shape (s.shape.size + 512))) img

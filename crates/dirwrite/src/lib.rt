@@ -12,11 +12,7 @@ ghost use Rattle.dirwrite.specs.Write.{link_block, unlink_block, sole_block, lin
 
 use dirblock::Entry;
 use field::Order;
-use ialloc_free::Unlinked;
-use ialloc_give::Stored;
-use inode_run::{Found, Spot};
-use inode_setblock::Written;
-use inode_truncate::Truncated;
+use inode_run::Spot;
 use refusal::Refusal;
 use volume::{Geometry, InodeNum};
 
@@ -30,16 +26,14 @@ pub fn link_block(
     inr: u32,
     kind: u8,
     name: &[u8],
-) -> Written
+) -> Result<(), Refusal>
     requires { Frame geo img.old × (at + 256 ≤ length img.old) × InTable geo at × (k * 512 + 512 ≤ size) × (length name.now < 256) }
     ensures { (img.new, written_out result) ≡ leaves (link_block geo at size k inr kind name.now) img.old }
 {
     let o = geo.order;
     let mut block = [0u8; 512];
-    if !dirfile::read_block(img, geo, at, size, k, &mut block) {
-        return Written::No(Refusal::Damaged);
-    }
-    dirblock_link::link_in(o, &mut block, inr, kind, name);
+    dirfile::read_block(img, geo, at, size, k, &mut block)?;
+    let _ = dirblock_link::link_in(o, &mut block, inr, kind, name);
     inode_write::write_at(img, geo, at, size, k * 512, &block)
 }
 
@@ -51,16 +45,14 @@ pub fn unlink_block(
     size: u64,
     k: u64,
     name: &[u8],
-) -> Written
+) -> Result<(), Refusal>
     requires { Frame geo img.old × (at + 256 ≤ length img.old) × InTable geo at × (k * 512 + 512 ≤ size) }
     ensures { (img.new, written_out result) ≡ leaves (unlink_block geo at size k name.now) img.old }
 {
     let o = geo.order;
     let mut block = [0u8; 512];
-    if !dirfile::read_block(img, geo, at, size, k, &mut block) {
-        return Written::No(Refusal::Damaged);
-    }
-    dirblock_link::unlink_in(o, &mut block, name);
+    dirfile::read_block(img, geo, at, size, k, &mut block)?;
+    let _ = dirblock_link::unlink_in(o, &mut block, name);
     inode_write::write_at(img, geo, at, size, k * 512, &block)
 }
 
@@ -79,14 +71,11 @@ fn sole_block(o: Order, block: &mut [u8], inr: u32, kind: u8, name: &[u8])
 }
 
 // inode_truncate in the work, of an inode that is found: what it refuses is damage.
-fn resize(img: &mut [u8], geo: Geometry, s: Spot, new: u64) -> Written
+fn resize(img: &mut [u8], geo: Geometry, s: Spot, new: u64) -> Result<(), Refusal>
     requires { Frame geo img.old × (s.at + 256 ≤ length img.old) }
     ensures { (img.new, written_out result) ≡ leaves (or_damaged (judged_work geo s.at s.shape new)) img.old }
 {
-    match truncate::truncate_found(img, geo, s.at, s.shape, new) {
-        Truncated::Done => Written::Done,
-        Truncated::No(e) => Written::No(Refusal::Damaged),
-    }
+    truncate::truncate_found(img, geo, s.at, s.shape, new).map_err(|_| Refusal::Damaged)
 }
 
 // The directory grows by one block, which the new record fills.
@@ -97,62 +86,49 @@ pub fn link_grown(
     inr: u32,
     kind: u8,
     name: &[u8],
-) -> Written
+) -> Result<(), Refusal>
     requires { Frame geo img.old × (s.at + 256 ≤ length img.old) × InTable geo s.at × (s.shape.size + 1024 ≤ 18446744073709551616) × (length name.now < 256) }
     ensures { (img.new, written_out result) ≡ leaves (link_grown geo s inr kind name.now) img.old }
 {
     let o = geo.order;
     let size = s.shape.size;
-    match resize(img, geo, s, size + 512) {
-        Written::Done => {
-            let mut block = [0u8; 512];
-            sole_block(o, &mut block, inr, kind, name);
-            inode_write::write_at(img, geo, s.at, size + 512, size, &block)
-        }
-        Written::No(e) => Written::No(e),
-    }
+    resize(img, geo, s, size + 512)?;
+    let mut block = [0u8; 512];
+    sole_block(o, &mut block, inr, kind, name);
+    inode_write::write_at(img, geo, s.at, size + 512, size, &block)
 }
 
 // Block q goes to the place before it.
-fn move_block(img: &mut [u8], geo: Geometry, at: usize, size: u64, q: u64) -> Written
+fn move_block(img: &mut [u8], geo: Geometry, at: usize, size: u64, q: u64) -> Result<(), Refusal>
     requires { Frame geo img.old × (at + 256 ≤ length img.old) × InTable geo at × (0 < q) × (q * 512 + 512 ≤ size) }
     ensures { (img.new, written_out result) ≡ leaves (move_block geo at size q) img.old }
 {
     let mut block = [0u8; 512];
-    if !dirfile::read_block(img, geo, at, size, q, &mut block) {
-        return Written::No(Refusal::Damaged);
-    }
+    dirfile::read_block(img, geo, at, size, q, &mut block)?;
     inode_write::write_at(img, geo, at, size, (q - 1) * 512, &block)
 }
 
 // inode_copy_range: all blocks behind block k, upward.
-fn close_up(img: &mut [u8], geo: Geometry, at: usize, size: u64, k: u64) -> Written
+fn close_up(img: &mut [u8], geo: Geometry, at: usize, size: u64, k: u64) -> Result<(), Refusal>
     requires { Frame geo img.old × (at + 256 ≤ length img.old) × InTable geo at × (k * 512 + 512 ≤ size) }
     ensures { (img.new, written_out result) ≡ leaves (close_up geo at size k) img.old }
 {
     let n = size / 512;
-    let mut q = k + 1;
-    while q < n {
-        match move_block(img, geo, at, size, q) {
-            Written::Done => {}
-            Written::No(e) => {
-                return Written::No(e);
-            }
-        }
-        q += 1;
+    for q in k + 1..n {
+        move_block(img, geo, at, size, q)?;
     }
-    Written::Done
+    Ok(())
 }
 
 // inode_truncate in the work: the inode is read again.
-pub fn cut_to(img: &mut [u8], geo: Geometry, inr: InodeNum, new: u64) -> Written
+pub fn cut_to(img: &mut [u8], geo: Geometry, inr: InodeNum, new: u64) -> Result<(), Refusal>
     requires { Frame geo img.old }
     ensures { (img.new, written_out result) ≡ leaves (cut_to geo inr.0 new) img.old }
 {
-    match inode_run::find_inode(img, geo, inr) {
-        Found::At(s) => resize(img, geo, s, new),
-        Found::No(e) => Written::No(Refusal::Damaged),
-    }
+    let Ok(s) = inode_run::find_inode(img, geo, inr) else {
+        return Err(Refusal::Damaged);
+    };
+    resize(img, geo, s, new)
 }
 
 // A block that goes: those behind it close up, and the directory is one block shorter.
@@ -163,40 +139,32 @@ pub fn drop_block(
     at: usize,
     size: u64,
     k: u64,
-) -> Written
+) -> Result<(), Refusal>
     requires { Frame geo img.old × (at + 256 ≤ length img.old) × InTable geo at × (k * 512 + 512 ≤ size) }
     ensures { (img.new, written_out result) ≡ leaves (drop_block geo inr.0 at size k) img.old }
 {
-    match close_up(img, geo, at, size, k) {
-        Written::Done => cut_to(img, geo, inr, size - 512),
-        Written::No(e) => Written::No(e),
-    }
+    close_up(img, geo, at, size, k)?;
+    cut_to(img, geo, inr, size - 512)
 }
 
 // inode_bump of an inode that is found again.
-pub fn bump_found(img: &mut [u8], geo: Geometry, inr: InodeNum) -> Written
+pub fn bump_found(img: &mut [u8], geo: Geometry, inr: InodeNum) -> Result<(), Refusal>
     requires { Frame geo img.old }
     ensures { (img.new, written_out result) ≡ leaves (bump_found geo inr.0) img.old }
 {
-    match inode_run::find_inode(img, geo, inr) {
-        Found::At(s) => match ialloc_give::inode_bump(img, geo, inr) {
-            Stored::Done => Written::Done,
-            Stored::No(e) => Written::No(e),
-        },
-        Found::No(e) => Written::No(Refusal::Damaged),
-    }
+    let Ok(_) = inode_run::find_inode(img, geo, inr) else {
+        return Err(Refusal::Damaged);
+    };
+    ialloc_give::inode_bump(img, geo, inr)
 }
 
 // inode_free of an inode that is found again.
-pub fn free_found(img: &mut [u8], geo: Geometry, inr: InodeNum) -> Written
+pub fn free_found(img: &mut [u8], geo: Geometry, inr: InodeNum) -> Result<(), Refusal>
     requires { Frame geo img.old }
     ensures { (img.new, written_out result) ≡ leaves (free_found geo inr.0) img.old }
 {
-    match inode_run::find_inode(img, geo, inr) {
-        Found::At(s) => match ialloc_free::inode_free(img, geo, inr) {
-            Unlinked::Done => Written::Done,
-            Unlinked::No(e) => Written::No(e),
-        },
-        Found::No(e) => Written::No(Refusal::Damaged),
-    }
+    let Ok(_) = inode_run::find_inode(img, geo, inr) else {
+        return Err(Refusal::Damaged);
+    };
+    ialloc_free::inode_free(img, geo, inr)
 }

@@ -2,7 +2,7 @@
 use mathlib.Core.Path.{◌≡◌, refl, sym, ap, subst, ◌∙◌}
 use mathlib.Core.List.{List, [], ◌∷◌, ◌++◌, reverse, append_assoc, reverse-reverse, reverse-append, reverse-cons}
 use mathlib.Core.Logic.{◌⊎◌, inl, inr, ⊎_elim}
-use Prim.Native.Nat.{ℕ, zero, suc, ◌+◌, ◌*◌, ◌/◌, ◌%◌, ◌^◌, ◌≤◌, ◌<◌}
+use Prim.Native.Nat.{ℕ, zero, suc, ◌+◌, ◌-◌, ◌*◌, ◌/◌, ◌%◌, ◌^◌, ◌≤◌, ◌<◌}
 use native.Mathlib.Nat.{pow-succ', div-div-eq-div-mul, div-one, one-le-pow, zero-add, suc-add, mul_comm, mul_assoc}
 use native.Mathlib.Omega.{arith}
 use lib.Dec.{T, leb, leb→le, lit<}
@@ -10,7 +10,9 @@ use lib.Arith.{mod-mul}
 use lib.ListN.{length, get_or, take, drop, set, length-take, length-drop, take-append-drop, length-reverse, length-replicate}
 use Rattle.field.specs.declared.Order.{Order}
 use Rattle.field.specs.declared.Order.TheVariants.{Little, Big}
-use lib.Seq.{sets, length-sets, sets-eq, get_or-set_other, get_or-take, get_or-drop, take-add, take-suc, drop-drop, ext_get_or, take-append_seam, drop_at, length-take-le}
+use borrow.Rule.Slice.PartMut.{put_mid}
+use Rattle.std.proofs.lemmas.Slice.{put_mid-paste}
+use lib.Seq.{take_all, sets, length-sets, sets-eq, get_or-set_other, get_or-take, get_or-drop, take-add, take-suc, drop-drop, ext_get_or, take-append_seam, drop_at, length-take-le}
 use Rattle.field.specs.Field.{part, put, zeros, value, digits, turn, num, put_num, Bytes, Kept}
 
 -- ---- bytes: `part` and `put`
@@ -78,6 +80,15 @@ put_append at us vs xs = sets_append us vs xs at
 pub put-none : (at : ℕ) (xs : List ℕ) → put at [] xs ≡ xs
 unfolding put
 put-none at xs = refl
+
+-- a run that a slice's own method wrote
+pub put-middle : (at n : ℕ) (vs xs : List ℕ) → length vs ≡ n → at + n ≤ length xs → put_mid at (at + n - at) xs vs ≡ put at vs xs
+unfolding put
+put-middle at n vs xs l h =
+    put_mid-paste at (at + n - at) xs vs vs n refl (omega arith) (sym l)
+    ∙ ap (λ (zs : List ℕ). take at xs ++ zs ++ drop (at + n) xs) (take_all n vs (omega arith))
+    ∙ ap (λ (m : ℕ). take at xs ++ vs ++ drop (at + m) xs) (sym l)
+    ∙ sym (sets-eq vs xs at (omega arith))
 
 pub put-more : (at : ℕ) (vs xs : List ℕ) (i : ℕ) → i < length vs → put at (take (suc i) vs) xs ≡ set (put at (take i vs) xs) (at + i) (get_or vs i 0)
 unfolding put

@@ -1,7 +1,7 @@
 // decoder.rs: numbers of 1, 2, 4 and 8 bytes and byte runs at an offset of a lent slice, in either byte order.
 #![tactic(auto)]
 
-ghost use Rattle.std.specs.Prelude.{◌≡◌, ◌+◌, ◌≤◌, length, true, false};
+ghost use Rattle.std.specs.Prelude.{◌≡◌, ◌+◌, ◌*◌, ◌/◌, ◌%◌, ◌^◌, ◌≤◌, ℕ, length, true, false};
 ghost use Rattle.field.specs.Field.{num, put_num, part, put, zeros};
 
 // Which byte of a number stands first: the low one or the high one.
@@ -11,125 +11,124 @@ pub enum Order {
     Big,
 }
 
-pub fn get_u8(o: Order, img: &[u8], at: usize) -> u8
-    requires { at + 1 ≤ length img.now }
-    ensures { result ≡ num o 1 at img.now }
-{
-    img[at]
+// A number that fields hold, in either byte order.
+pub trait Number: Copy {
+    // What it says, and how many bytes it fills.
+    ghost number: { Self → ℕ };
+
+    ghost BYTES: { ℕ };
+
+    const BYTES: usize;
+
+    fn get(o: Order, img: &[u8], at: usize) -> Self
+        requires { at + BYTES ≤ length img.now }
+        ensures { number result ≡ num o BYTES at img.now };
+
+    fn put(self, o: Order, img: &mut [u8], at: usize)
+        requires { at + BYTES ≤ length img.old }
+        ensures { img.new ≡ put_num o BYTES at (number self) img.old };
 }
 
-pub fn get_u16(o: Order, img: &[u8], at: usize) -> u16
-    requires { at + 2 ≤ length img.now }
-    ensures { result ≡ num o 2 at img.now }
+// The low and the high half of a number.
+fn halves<T: Number>(o: Order, img: &[u8], at: usize) -> (T, T)
+    requires { at + T.BYTES + T.BYTES ≤ length img.now }
+    ensures { num o (T.BYTES + T.BYTES) at img.now ≡ T.number result.0 + 256 ^ T.BYTES * T.number result.1 }
+{
+    let first = T::get(o, img, at);
+    let second = T::get(o, img, at + T::BYTES);
+    match o {
+        Order::Little => (first, second),
+        Order::Big => (second, first),
+    }
+}
+
+// A number's low and high half, written.
+fn put_halves<T: Number>(o: Order, img: &mut [u8], at: usize, low: T, high: T)
+    requires { at + T.BYTES + T.BYTES ≤ length img.old }
+    ensures { (v : ℕ) → T.number low ≡ v % 256 ^ T.BYTES → T.number high ≡ v / 256 ^ T.BYTES → img.new ≡ put_num o (T.BYTES + T.BYTES) at v img.old }
 {
     match o {
         Order::Little => {
-            let low = get_u8(Order::Little, img, at) as u16;
-            let high = get_u8(Order::Little, img, at + 1) as u16;
-            low + high * 256
+            low.put(o, img, at);
+            high.put(o, img, at + T::BYTES);
         }
         Order::Big => {
-            let high = get_u8(Order::Big, img, at) as u16;
-            let low = get_u8(Order::Big, img, at + 1) as u16;
-            low + high * 256
+            high.put(o, img, at);
+            low.put(o, img, at + T::BYTES);
         }
     }
 }
 
-pub fn get_u32(o: Order, img: &[u8], at: usize) -> u32
-    requires { at + 4 ≤ length img.now }
-    ensures { result ≡ num o 4 at img.now }
-{
-    match o {
-        Order::Little => {
-            let low = get_u16(Order::Little, img, at) as u32;
-            let high = get_u16(Order::Little, img, at + 2) as u32;
-            low + high * 65536
-        }
-        Order::Big => {
-            let high = get_u16(Order::Big, img, at) as u32;
-            let low = get_u16(Order::Big, img, at + 2) as u32;
-            low + high * 65536
-        }
+impl Number for u8 {
+    ghost number = { λ v. v };
+
+    ghost BYTES = { 1 };
+
+    const BYTES: usize = 1;
+
+    fn get(o: Order, img: &[u8], at: usize) -> u8 {
+        img[at]
+    }
+
+    fn put(self, o: Order, img: &mut [u8], at: usize) {
+        img[at] = self;
     }
 }
 
-pub fn get_u64(o: Order, img: &[u8], at: usize) -> u64
-    requires { at + 8 ≤ length img.now }
-    ensures { result ≡ num o 8 at img.now }
-{
-    match o {
-        Order::Little => {
-            let low = get_u32(Order::Little, img, at) as u64;
-            let high = get_u32(Order::Little, img, at + 4) as u64;
-            low + high * 4294967296
-        }
-        Order::Big => {
-            let high = get_u32(Order::Big, img, at) as u64;
-            let low = get_u32(Order::Big, img, at + 4) as u64;
-            low + high * 4294967296
-        }
+impl Number for u16 {
+    ghost number = { λ v. v };
+
+    ghost BYTES = { 2 };
+
+    const BYTES: usize = 2;
+
+    fn get(o: Order, img: &[u8], at: usize) -> u16 {
+        let (low, high) = halves::<u8>(o, img, at);
+        low as u16 + high as u16 * 256
+    }
+
+    fn put(self, o: Order, img: &mut [u8], at: usize) {
+        put_halves::<u8>(o, img, at, (self % 256) as u8, (self / 256) as u8);
     }
 }
 
-pub fn put_u8(o: Order, img: &mut [u8], at: usize, v: u8)
-    requires { at + 1 ≤ length img.old }
-    ensures { img.new ≡ put_num o 1 at v img.old }
-{
-    img[at] = v;
-}
+impl Number for u32 {
+    ghost number = { λ v. v };
 
-pub fn put_u16(o: Order, img: &mut [u8], at: usize, v: u16)
-    requires { at + 2 ≤ length img.old }
-    ensures { img.new ≡ put_num o 2 at v img.old }
-{
-    let low = (v % 256) as u8;
-    let high = (v / 256) as u8;
-    match o {
-        Order::Little => {
-            put_u8(Order::Little, img, at, low);
-            put_u8(Order::Little, img, at + 1, high);
-        }
-        Order::Big => {
-            put_u8(Order::Big, img, at, high);
-            put_u8(Order::Big, img, at + 1, low);
-        }
+    ghost BYTES = { 4 };
+
+    const BYTES: usize = 4;
+
+    fn get(o: Order, img: &[u8], at: usize) -> u32 {
+        let (low, high) = halves::<u16>(o, img, at);
+        low as u32 + high as u32 * 65536
+    }
+
+    fn put(self, o: Order, img: &mut [u8], at: usize) {
+        put_halves::<u16>(o, img, at, (self % 65536) as u16, (self / 65536) as u16);
     }
 }
 
-pub fn put_u32(o: Order, img: &mut [u8], at: usize, v: u32)
-    requires { at + 4 ≤ length img.old }
-    ensures { img.new ≡ put_num o 4 at v img.old }
-{
-    let low = (v % 65536) as u16;
-    let high = (v / 65536) as u16;
-    match o {
-        Order::Little => {
-            put_u16(Order::Little, img, at, low);
-            put_u16(Order::Little, img, at + 2, high);
-        }
-        Order::Big => {
-            put_u16(Order::Big, img, at, high);
-            put_u16(Order::Big, img, at + 2, low);
-        }
-    }
-}
+impl Number for u64 {
+    ghost number = { λ v. v };
 
-pub fn put_u64(o: Order, img: &mut [u8], at: usize, v: u64)
-    requires { at + 8 ≤ length img.old }
-    ensures { img.new ≡ put_num o 8 at v img.old }
-{
-    let low = (v % 4294967296) as u32;
-    let high = (v / 4294967296) as u32;
-    match o {
-        Order::Little => {
-            put_u32(Order::Little, img, at, low);
-            put_u32(Order::Little, img, at + 4, high);
-        }
-        Order::Big => {
-            put_u32(Order::Big, img, at, high);
-            put_u32(Order::Big, img, at + 4, low);
-        }
+    ghost BYTES = { 8 };
+
+    const BYTES: usize = 8;
+
+    fn get(o: Order, img: &[u8], at: usize) -> u64 {
+        let (low, high) = halves::<u32>(o, img, at);
+        low as u64 + high as u64 * 4294967296
+    }
+
+    fn put(self, o: Order, img: &mut [u8], at: usize) {
+        put_halves::<u32>(
+            o,
+            img,
+            at,
+            (self % 4294967296) as u32,
+            (self / 4294967296) as u32,
+        );
     }
 }
 
@@ -138,11 +137,7 @@ pub fn copy_bytes(dst: &mut [u8], at: usize, src: &[u8], from: usize, n: usize)
     requires { (at + n ≤ length dst.old) × (from + n ≤ length src.now) }
     ensures { dst.new ≡ put at (part n from src.now) dst.old }
 {
-    let mut i = 0;
-    while i < n {
-        dst[at + i] = src[from + i];
-        i += 1;
-    }
+    dst[at..at + n].copy_from_slice(&src[from..from + n]);
 }
 
 // n zeros, written to dst from `at`.
@@ -150,11 +145,7 @@ pub fn zero_bytes(dst: &mut [u8], at: usize, n: usize)
     requires { at + n ≤ length dst.old }
     ensures { dst.new ≡ put at (zeros n) dst.old }
 {
-    let mut i = 0;
-    while i < n {
-        dst[at + i] = 0;
-        i += 1;
-    }
+    dst[at..at + n].fill(0);
 }
 
 // Whether the bytes at `at` are those of src.
@@ -163,12 +154,5 @@ pub fn same_bytes(img: &[u8], at: usize, src: &[u8]) -> bool
     ensures yes { result ≡ true → part (length src.now) at img.now ≡ src.now }
     ensures no { result ≡ false → part (length src.now) at img.now ≡ src.now → ⊥ }
 {
-    let mut i = 0;
-    while i < src.len() {
-        if img[at + i] != src[i] {
-            return false;
-        }
-        i += 1;
-    }
-    true
+    &img[at..at + src.len()] == src
 }

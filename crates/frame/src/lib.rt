@@ -1,13 +1,13 @@
 // ufs/mod.rs (cg_addr): places of a sound volume, handed out with what is known of them.
 #![tactic(auto)]
 
-ghost use Rattle.std.specs.Prelude.{◌≡◌, ◌+◌, ◌*◌, ◌/◌, ◌≤◌, ◌<◌, length, [], ◌∷◌};
-ghost use Rattle.volume.specs.Volume.{byte_at, cg_at, count_at};
+ghost use Rattle.std.specs.Prelude.{◌≡◌, ◌*◌, ◌<◌, [], ◌∷◌};
+ghost use Rattle.volume.specs.Volume.{cg_at, count_at};
 ghost use Rattle.frame.specs.Frame.{Frame, Spots, place_okb, run_okb, GroupIs, InodeIs};
 ghost use Rattle.store.specs.Store.{apply_if};
 ghost use Rattle.frame.specs.Writes.{count_write, total_write};
 
-use volume::{Count, Counts, FragNum, Geometry, Group, InodeNum};
+use volume::{Count, FragNum, Geometry, Group, InodeNum};
 
 // Where group g's record begins.
 pub fn cg_addr(img: &[u8], geo: Geometry, g: u32) -> usize
@@ -81,7 +81,7 @@ pub fn put_count_if(img: &mut [u8], go: bool, geo: Geometry, g: u32, c: Count, v
 {
     let o = geo.order;
     let at = cg_addr(img, geo, g);
-    store::put_u32_if(img, go, o, at + volume::count_place(c), v);
+    store::put_if(img, go, o, at + volume::count_place(c), v);
 }
 
 // A total stored, if it is to be made.
@@ -90,5 +90,5 @@ pub fn put_total_if(img: &mut [u8], go: bool, geo: Geometry, c: Count, v: u64)
     ensures { img.new ≡ apply_if go (total_write geo c v ∷ []) img.old }
 {
     let o = geo.order;
-    store::put_u64_if(img, go, o, 65536 + volume::total_place(c), v);
+    store::put_if(img, go, o, 65536 + volume::total_place(c), v);
 }

@@ -1,5 +1,5 @@
 -- 01, "Inodes and mapping": an inode loses a link, and is freed with its last one. Assumes nothing: these are definitions.
-use Rattle.std.specs.Prelude.{true, List, [], ◌∷◌, ℕ, ◌-◌, ◌/◌, ◌%◌, eqb}
+use Rattle.std.specs.Prelude.{true, List, [], ◌∷◌, ℕ, ◌-◌, ◌/◌, ◌%◌, eqb, Result, Ok, Err}
 use Rattle.refusal.specs.declared.Refusal.TheVariants.{Damaged}
 use Rattle.field.specs.Field.{part, zeros}
 use Rattle.store.specs.Store.{Write}
@@ -13,8 +13,7 @@ use Rattle.inode.specs.Shape.{shape_of, address_at, in_place}
 use Rattle.inode.specs.Places.{nlink_at, nlink_write}
 use Rattle.ialloc_tree.specs.Tree.{free_tree}
 use Rattle.ialloc_give.specs.Marks.{mark_used, count_inode}
-use Rattle.ialloc_free.specs.declared.Unlinked.{Unlinked}
-use Rattle.ialloc_free.specs.declared.Unlinked.TheVariants as Unlinked
+use Rattle.refusal.specs.declared.Refusal.{Refusal}
 
 -- the record's 256 bytes made 0
 unfoldable pub zero_record : ℕ → Write
@@ -54,6 +53,6 @@ unfoldable pub free_inode : Geometry → ℕ → Act (Unit {0})
 free_inode geo i = λ img. unlink geo i (part 256 (inode_at geo i) img) (nlink_at geo.order (inode_at geo i) img) img
 
 -- the code's answer
-abbrev pub unlinked_out : Unlinked → Out (Unit {0})
-unlinked_out Unlinked.Done = got (tt {0})
-unlinked_out (Unlinked.No e) = refused e
+abbrev pub unlinked_out : Result (Unit {0}) Refusal → Out (Unit {0})
+unlinked_out (Ok u) = got (tt {0})
+unlinked_out (Err e) = refused e

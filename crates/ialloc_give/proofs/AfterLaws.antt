@@ -1,4 +1,5 @@
 -- What is there after an inode was given out: its bit is 1, and its record is the new one. Assumes nothing.
+use Rattle.std.specs.Prelude.{Some}
 use Rattle.std.proofs.Common.{◌≡◌, ℕ, ◌+◌, ◌-◌, ◌*◌, ◌/◌, ◌%◌, ◌^◌, ◌<◌, ◌≤◌, false, List, [], ◌∷◌, length, sym, refl, ap, ◌∙◌, inl, inr, add_comm, arith}
 use native.Mathlib.Nat.{div-eq_of_lt, add-mul-div_right}
 use Rattle.field.specs.Field.{Kept}
@@ -28,8 +29,6 @@ use Rattle.inode.specs.Places.{generation_at}
 use Rattle.inode_record.specs.Record.{listed, inode_of, inode_store, Fit, Fits, slots, owner_slots, size_slots, time_slots, flag_slots, address_slots, last_slots}
 use Rattle.inode_record.proofs.ReadLaws.{kept-inode, generation-of-inode}
 use Rattle.inode_record.proofs.RecordLaws.{inode-back, kept-inode-store}
-use Rattle.ialloc_give.specs.declared.Place.{Place}
-use Rattle.ialloc_give.specs.declared.Place.TheVariants as Place
 use Rattle.ialloc_give.specs.Marks.{counted}
 use Rattle.ialloc_give.specs.Choose.{chosen, inode_number}
 use Rattle.ialloc_give.specs.Give.{new_inode, with_link, give_at, give_inode}
@@ -167,11 +166,11 @@ pub record Made (geo : Geometry) (new : Inode) (img : List ℕ) (i : ℕ) (z : L
   pub bit : bit_at z (used_at geo answered.group img) answered.place ≡ 1
   pub inode : inode_of geo.order (inode_at geo i) z ≡ with_link (generation_at geo.order (inode_at geo i) img + 1) new
 
-chosen-stores : (geo : Geometry) (new : Inode) (img : List ℕ) (g k : ℕ) → chosen geo img ≡ Place.At g k → apply_all (give_at geo new g k img).stores img ≡ apply_all (give_inode geo new img).stores img
+chosen-stores : (geo : Geometry) (new : Inode) (img : List ℕ) (g k : ℕ) → chosen geo img ≡ Some (g, k) → apply_all (give_at geo new g k img).stores img ≡ apply_all (give_inode geo new img).stores img
 unfolding give_inode
 chosen-stores geo new img g k e = rw e
 
-made-at : (geo : Geometry) (new : Inode) (img : List ℕ) → Frame geo img → Fits new → (i g k : ℕ) → chosen geo img ≡ Place.At g k → IsChosen geo img g k → i ≡ inode_number geo g k
+made-at : (geo : Geometry) (new : Inode) (img : List ℕ) → Frame geo img → Fits new → (i g k : ℕ) → chosen geo img ≡ Some (g, k) → IsChosen geo img g k → i ≡ inode_number geo g k
     → Ready geo i (marked geo new g k img) (generation_at geo.order (inode_at geo i) (marked geo new g k img) + 1) → (z : List ℕ) → apply_all (give_inode geo new img).stores img ≡ z
     → (bit_at z (used_at geo g img) k ≡ 1) × (inode_of geo.order (inode_at geo i) z ≡ with_link (generation_at geo.order (inode_at geo i) img + 1) new)
 made-at geo new img fr f i g k q c en r z ez =

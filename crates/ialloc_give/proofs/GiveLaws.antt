@@ -1,4 +1,5 @@
 -- The laws of an inode given out, and of a link more: the cases as the code meets them, and that the layout stays. Assumes nothing.
+use Rattle.std.specs.Prelude.{Option, Some, None}
 use Rattle.std.proofs.Common.{◌≡◌, ℕ, ◌+◌, ◌-◌, ◌*◌, ◌<◌, false, ltb, List, [], ◌∷◌, sym, refl, ap, ◌∙◌, arith, lt-ltb, ne_eqb}
 use Rattle.refusal.specs.declared.Refusal.{Refusal}
 use Rattle.refusal.specs.declared.Refusal.TheVariants.{LinkedInode, NoSpace, Damaged}
@@ -22,8 +23,6 @@ use Rattle.books.specs.Work.{given}
 use Rattle.books.specs.Books.{Steady}
 use Rattle.books.proofs.SteadyLaws.{steady-refl}
 use Rattle.books.proofs.KeepLaws.{Keeps, keeps_from, keeps-bind, keeps-pure, keeps-refuse, keeps_given, keeps-read}
-use Rattle.ialloc_give.specs.declared.Place.{Place}
-use Rattle.ialloc_give.specs.declared.Place.TheVariants as Place
 use Rattle.ialloc_give.specs.Marks.{mark_used, count_inode}
 use Rattle.ialloc_give.specs.Choose.{chosen, inode_number}
 use Rattle.ialloc_give.specs.Give.{with_link, setup_test, set_up, give_at, give_place, give_inode, bump}
@@ -114,7 +113,7 @@ module _ (geo : Geometry) (new : Inode) (g k : ℕ) (img : List ℕ) (i : ℕ) (
       ∙ step-good (set_up geo new (inode_number geo g k)) _ x set-up q ∙ step-good (mark_used 1 geo g k) _ img em refl
 
 -- where the choice leads
-pub give-chosen : (geo : Geometry) (new : Inode) (img : List ℕ) {p : Place} → p ≡ chosen geo img → leaves (give_place geo new p) img ≡ leaves (give_inode geo new) img
+pub give-chosen : (geo : Geometry) (new : Inode) (img : List ℕ) {p : (Option (ℕ × ℕ))} → p ≡ chosen geo img → leaves (give_place geo new p) img ≡ leaves (give_inode geo new) img
 unfolding give_inode leaves
 give-chosen geo new img e = rw e
 
@@ -145,6 +144,6 @@ module _ (geo : Geometry) where
   unfolding give_inode
   keeps-give new = keeps_from geo _ (λ img fr. always_at (λ x. give_place geo new (chosen geo x)) img (go img fr (chosen geo img) refl))
     where
-      go : (img : List ℕ) → Frame geo img → (p : Place) → chosen geo img ≡ p → Always (Steady geo img) (give_place geo new p) img
-      go img fr (Place.At g k) q = let i = chosen-is geo img g k q in keeps-give-at new g k i.group i.inode img img (steady-refl geo img fr)
-      go img fr Place.Nothing q = keeps-refuse geo ℕ NoSpace img img (steady-refl geo img fr)
+      go : (img : List ℕ) → Frame geo img → (p : Option (ℕ × ℕ)) → chosen geo img ≡ p → Always (Steady geo img) (give_place geo new p) img
+      go img fr (Some (g, k)) q = let i = chosen-is geo img g k q in keeps-give-at new g k i.group i.inode img img (steady-refl geo img fr)
+      go img fr None q = keeps-refuse geo ℕ NoSpace img img (steady-refl geo img fr)

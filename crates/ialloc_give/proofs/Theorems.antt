@@ -1,4 +1,5 @@
 -- What is relied on of giving out an inode: 28 exactly when, the first such inode, where it stores, and what a refusal leaves. Assumes nothing.
+use Rattle.std.specs.Prelude.{Option, Some, None}
 use Rattle.std.proofs.Common.{◌≡◌, ℕ, ◌+◌, ◌-◌, ◌<◌, true, false, ◌⊎◌, List, [], ◌∷◌, sym, refl, ap, ◌∙◌, inl, inr, arith}
 use Rattle.refusal.specs.declared.Refusal.{Refusal}
 use Rattle.refusal.specs.declared.Refusal.TheVariants.{LinkedInode, NoSpace, Damaged}
@@ -18,8 +19,6 @@ use Rattle.frame.specs.Frame.{Frame}
 use Rattle.inode.specs.declared.Inode.{Inode}
 use Rattle.inode.specs.Places.{generation_at}
 use Rattle.balloc_give.specs.Give.{positive}
-use Rattle.ialloc_give.specs.declared.Place.{Place}
-use Rattle.ialloc_give.specs.declared.Place.TheVariants as Place
 use Rattle.ialloc_give.specs.Marks.{used_write}
 use Rattle.ialloc_give.specs.Choose.{chosen, inode_number}
 use Rattle.ialloc_give.specs.Give.{setup_test, give_at, give_place, give_inode}
@@ -49,9 +48,9 @@ pub full-none : (geo : Geometry) (new : Inode) (img : List ℕ) → (give_inode 
 unfolding give_inode
 full-none geo new img e = go (chosen geo img) refl e
   where
-    go : (p : Place) → chosen geo img ≡ p → (give_place geo new p img).out ≡ refused NoSpace → NoneFree geo img
-    go Place.Nothing q e = none-chosen geo img q
-    go (Place.At g k) q e = absurd (give-not-full geo new g k img e)
+    go : (p : Option (ℕ × ℕ)) → chosen geo img ≡ p → (give_place geo new p img).out ≡ refused NoSpace → NoneFree geo img
+    go None q e = none-chosen geo img q
+    go (Some (g, k)) q e = absurd (give-not-full geo new g k img e)
 
 refuse-is : (e : Refusal) (img : List ℕ) → (refuse {A = ℕ} e img).out ≡ refused e
 unfolding refuse
@@ -61,16 +60,16 @@ pub none-full : (geo : Geometry) (new : Inode) (img : List ℕ) → NoneFree geo
 unfolding give_inode
 none-full geo new img n = go (chosen geo img) refl
   where
-    go : (p : Place) → chosen geo img ≡ p → (give_place geo new p img).out ≡ refused NoSpace
-    go Place.Nothing q = refuse-is NoSpace img
-    go (Place.At g k) q = let i = chosen-is geo img g k q in absurd (true-not-false i.free (n g i.group i.counts k i.inode))
+    go : (p : Option (ℕ × ℕ)) → chosen geo img ≡ p → (give_place geo new p img).out ≡ refused NoSpace
+    go None q = refuse-is NoSpace img
+    go (Some (g, k)) q = let i = chosen-is geo img g k q in absurd (true-not-false i.free (n g i.group i.counts k i.inode))
 
 -- ---- the inode given is the first such, and its record was one that no link leads to
 
 pub record Answered (geo : Geometry) (img : List ℕ) (i : ℕ) : Type 0 where
   pub group : ℕ
   pub place : ℕ
-  pub chosen_there : chosen geo img ≡ Place.At group place
+  pub chosen_there : chosen geo img ≡ Some (group, place)
   pub first : IsChosen geo img group place
   pub number : i ≡ inode_number geo group place
   pub ready : Ready geo i (apply (used_write 1 geo group place img ∷ []) img) (generation_at geo.order (inode_at geo i) (apply (used_write 1 geo group place img ∷ []) img) + 1)
@@ -79,20 +78,20 @@ pub given-first : (geo : Geometry) (new : Inode) (img : List ℕ) (i : ℕ) → 
 unfolding give_inode
 given-first geo new img i e = go (chosen geo img) refl e
   where
-    at : (g k : ℕ) → chosen geo img ≡ Place.At g k → (t : Out ℕ) → setup_test geo (inode_number geo g k) (marked geo new g k img) ≡ t → number_for (inode_number geo g k) t ≡ got i → Answered geo img i
+    at : (g k : ℕ) → chosen geo img ≡ Some (g, k) → (t : Out ℕ) → setup_test geo (inode_number geo g k) (marked geo new g k img) ≡ t → number_for (inode_number geo g k) t ≡ got i → Answered geo img i
     at g k c (got n) q r =
         let en : inode_number geo g k ≡ i = cc in
         let y = setup_ready geo (inode_number geo g k) (marked geo new g k img) n q in
         record { group = g; place = k; chosen_there = c; first = chosen-is geo img g k c; number = sym en; ready = rw (← en) (record { unlinked = y.unlinked; room = y.room; next = refl }) }
     at g k c (refused x) q r = absurd (let z : ◌≡◌ {A = ℕ} 0 1 = cc in let y : ⊥ = omega arith in y)
 
-    go : (p : Place) → chosen geo img ≡ p → (give_place geo new p img).out ≡ got i → Answered geo img i
-    go Place.Nothing q e = absurd (let s = refuse-is NoSpace img in let z : ◌≡◌ {A = ℕ} 0 1 = cc in let y : ⊥ = omega arith in y)
-    go (Place.At g k) q e = at g k q (setup_test geo (inode_number geo g k) (marked geo new g k img)) refl (sym (give-out geo new g k img) ∙ e)
+    go : (p : Option (ℕ × ℕ)) → chosen geo img ≡ p → (give_place geo new p img).out ≡ got i → Answered geo img i
+    go None q e = absurd (let s = refuse-is NoSpace img in let z : ◌≡◌ {A = ℕ} 0 1 = cc in let y : ⊥ = omega arith in y)
+    go (Some (g, k)) q e = at g k q (setup_test geo (inode_number geo g k) (marked geo new g k img)) refl (sym (give-out geo new g k img) ∙ e)
 
 -- ---- it stores into the books and that inode's record alone
 
-pub stores-only : (geo : Geometry) (new : Inode) (img : List ℕ) → Frame geo img → (g k : ℕ) → chosen geo img ≡ Place.At g k
+pub stores-only : (geo : Geometry) (new : Inode) (img : List ℕ) → Frame geo img → (g k : ℕ) → chosen geo img ≡ Some (g, k)
     → Only (Touched geo (inode_at geo (inode_number geo g k)) img) (give_inode geo new img).stores
 unfolding give_inode
 stores-only geo new img fr g k q = let i = chosen-is geo img g k q in rw q (give-only geo new g k img fr i.group i.inode)

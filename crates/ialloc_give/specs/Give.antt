@@ -1,5 +1,5 @@
 -- 01, "Inodes and mapping": an inode given out, and a link more. Assumes nothing: these are definitions.
-use Rattle.std.specs.Prelude.{ℕ, ◌+◌, ◌*◌, ◌%◌, false, List, [], ◌∷◌, ◌==◌, nat_lt}
+use Rattle.std.specs.Prelude.{ℕ, ◌+◌, ◌*◌, ◌%◌, false, List, [], ◌∷◌, ◌==◌, nat_lt, Option, Some, None, Result, Ok, Err}
 use Rattle.refusal.specs.declared.Refusal.TheVariants.{LinkedInode, NoSpace, Damaged}
 use Rattle.store.specs.Act.{Out, got, refused, Act, pure, refuse, store, ◌>>=◌, ◌>>◌}
 use Rattle.volume.specs.declared.Geometry.{Geometry}
@@ -12,14 +12,10 @@ use Rattle.inode.specs.Places.{nlink_at, nlink_write, generation_at}
 use Rattle.inode_record.specs.Record.{inode_store}
 use Rattle.inode_run.specs.Judge.{ask}
 use Rattle.books.specs.Work.{given}
-use Rattle.ialloc_give.specs.declared.Place.{Place}
-use Rattle.ialloc_give.specs.declared.Place.TheVariants as Place
-use Rattle.ialloc_give.specs.declared.NewInode.{NewInode}
-use Rattle.ialloc_give.specs.declared.NewInode.TheVariants as NewInode
-use Rattle.ialloc_give.specs.declared.Stored.{Stored}
-use Rattle.ialloc_give.specs.declared.Stored.TheVariants as Stored
 use Rattle.ialloc_give.specs.Marks.{mark_used, count_inode}
 use Rattle.ialloc_give.specs.Choose.{chosen, inode_number}
+use Rattle.refusal.specs.declared.Refusal.{Refusal}
+use Rattle.volume.specs.declared.InodeNum.{InodeNum}
 
 -- Inode::new: "a new inode holds type and permission bits, owners, blksize = bsize, one time passed in for all four, and zeros"
 unfoldable pub new_inode : Geometry → InodeType → ℕ → ℕ → ℕ → Times → Inode
@@ -90,9 +86,9 @@ give_at geo new g k = do
   count_inode false geo g
   pure (inode_number geo g k)
 
-abbrev pub give_place : Geometry → Inode → Place → Act ℕ
-give_place geo new (Place.At g k) = give_at geo new g k
-give_place geo new Place.Nothing = refuse NoSpace
+abbrev pub give_place : Geometry → Inode → Option (ℕ × ℕ) → Act ℕ
+give_place geo new (Some (g, k)) = give_at geo new g k
+give_place geo new None = refuse NoSpace
 
 -- inode_alloc: an inode given, or 28
 unfoldable pub give_inode : Geometry → Inode → Act ℕ
@@ -105,10 +101,10 @@ bump geo i =
     (λ n. store (nlink_write geo.order (inode_at geo i) (n + 1) ∷ [])) img
 
 -- the code's answers
-abbrev pub new_out : NewInode → Out ℕ
-new_out (NewInode.Number i) = got i.0
-new_out (NewInode.No e) = refused e
+abbrev pub new_out : Result InodeNum Refusal → Out ℕ
+new_out (Ok i) = got i.0
+new_out (Err e) = refused e
 
-abbrev pub stored_out : Stored → Out (Unit {0})
-stored_out Stored.Done = got (tt {0})
-stored_out (Stored.No e) = refused e
+abbrev pub stored_out : Result (Unit {0}) Refusal → Out (Unit {0})
+stored_out (Ok u) = got (tt {0})
+stored_out (Err e) = refused e

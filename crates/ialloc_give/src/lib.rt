@@ -11,31 +11,9 @@ ghost use Rattle.ialloc_give.specs.Marks.{used_write, counted, count_inode};
 ghost use Rattle.ialloc_give.specs.Choose.{in_group, chosen};
 ghost use Rattle.ialloc_give.specs.Give.{new_inode, with_link, set_up, give_at, give_inode, bump, new_out, stored_out};
 
-use bits::Found;
 use inode::{Inode, InodeType, Times};
 use refusal::Refusal;
 use volume::{Count, Geometry, InodeNum};
-
-// A group and an inode of it, or none.
-#[derive(Clone, Copy)]
-pub enum Place {
-    At(u32, usize),
-    Nothing,
-}
-
-// The inode given, or a refusal.
-#[derive(Clone, Copy)]
-pub enum NewInode {
-    Number(InodeNum),
-    No(Refusal),
-}
-
-// What was to be stored is stored, or a refusal.
-#[derive(Clone, Copy)]
-pub enum Stored {
-    Done,
-    No(Refusal),
-}
 
 // Where group g's inode map begins.
 pub fn used_at(img: &[u8], geo: Geometry, g: u32) -> usize
@@ -47,7 +25,7 @@ pub fn used_at(img: &[u8], geo: Geometry, g: u32) -> usize
 }
 
 // The lowest clear bit of group g, if the group counts a free inode.
-fn inode_in_group(img: &[u8], geo: Geometry, g: u32) -> Found
+fn inode_in_group(img: &[u8], geo: Geometry, g: u32) -> Option<usize>
     requires { Frame geo img.now × (g < geo.ncg) }
     ensures { result ≡ in_group geo img.now g }
 {
@@ -56,23 +34,20 @@ fn inode_in_group(img: &[u8], geo: Geometry, g: u32) -> Found
         let at = used_at(img, geo, g);
         return bits_find::first_clear_bit(img, at, geo.ipg as usize);
     }
-    Found::Nothing
+    None
 }
 
 // The first group that counts an inode and has one, and its lowest clear bit.
-pub fn inode_choose(img: &[u8], geo: Geometry) -> Place
+pub fn inode_choose(img: &[u8], geo: Geometry) -> Option<(u32, usize)>
     requires { Frame geo img.now }
     ensures { result ≡ chosen geo img.now }
 {
-    let mut g = 0;
-    while g < geo.ncg {
-        let f = inode_in_group(img, geo, g);
-        if let Found::At(k) = f {
-            return Place::At(g, k);
+    for g in 0..geo.ncg {
+        if let Some(k) = inode_in_group(img, geo, g) {
+            return Some((g, k));
         }
-        g += 1;
     }
-    Place::Nothing
+    None
 }
 
 // The bit of inode k of group g, made used or not.
@@ -132,12 +107,12 @@ pub fn new_inode(
     Inode {
         mode: inode::type_number(kind) as u16 * 4096 + perm % 4096,
         nlink: 0,
-        uid: uid,
-        gid: gid,
+        uid,
+        gid,
         blksize: geo.bsize,
         size: 0,
         blocks: 0,
-        times: times,
+        times,
         generation: 0,
         kernflags: 0,
         flags: 0,
@@ -156,81 +131,54 @@ pub fn new_inode(
 fn with_link(new: Inode, n: u32) -> Inode
     ensures { result ≡ with_link n new }
 {
-    let times = new.times;
-    let extb = new.extb;
-    let direct = new.direct;
-    let indirect = new.indirect;
-    let spare = new.spare;
     Inode {
-        mode: new.mode,
         nlink: 1,
-        uid: new.uid,
-        gid: new.gid,
-        blksize: new.blksize,
-        size: new.size,
-        blocks: new.blocks,
-        times: times,
         generation: n,
-        kernflags: new.kernflags,
-        flags: new.flags,
-        extsize: new.extsize,
-        extb: extb,
-        direct: direct,
-        indirect: indirect,
-        modrev: new.modrev,
-        ignored: new.ignored,
-        ckhash: new.ckhash,
-        spare: spare,
+        ..new
     }
 }
 
 // inode_setup: the record of an inode that is given out.
-pub fn inode_setup(img: &mut [u8], geo: Geometry, inr: InodeNum, new: Inode) -> Stored
+pub fn inode_setup(img: &mut [u8], geo: Geometry, inr: InodeNum, new: Inode) -> Result<(), Refusal>
     requires { Frame geo img.old × (inr.0 < geo.ncg * geo.ipg) }
     ensures { (img.new, stored_out result) ≡ leaves (set_up geo new inr.0) img.old }
 {
     let at = frame::inode_spot(img, geo, inr);
     let o = geo.order;
     if inode::read_nlink(img, o, at) != 0 {
-        return Stored::No(Refusal::LinkedInode);
+        return Err(Refusal::LinkedInode);
     }
     let old = inode::read_generation(img, o, at);
     if old == 4294967295 {
-        return Stored::No(Refusal::Damaged);
+        return Err(Refusal::Damaged);
     }
     inode_record::write_inode(img, o, at, with_link(new, old + 1));
-    Stored::Done
+    Ok(())
 }
 
 // Inode k of group g given out.
-fn give_at(img: &mut [u8], geo: Geometry, g: u32, k: usize, new: Inode) -> NewInode
+fn give_at(img: &mut [u8], geo: Geometry, g: u32, k: usize, new: Inode) -> Result<InodeNum, Refusal>
     requires { Frame geo img.old × (g < geo.ncg) × (k < geo.ipg) }
     ensures { (img.new, new_out result) ≡ leaves (give_at geo new g k) img.old }
 {
     mark_used(img, geo, g, k, true);
     let i = (volume::product(g, geo.ipg) + k) as u32;
-    match inode_setup(img, geo, InodeNum(i), new) {
-        Stored::Done => {
-            count_inode(img, geo, g, false);
-            NewInode::Number(InodeNum(i))
-        }
-        Stored::No(e) => NewInode::No(e),
-    }
+    inode_setup(img, geo, InodeNum(i), new)?;
+    count_inode(img, geo, g, false);
+    Ok(InodeNum(i))
 }
 
 // inode_alloc: an inode given out, with the record `new`.
-pub fn inode_alloc(img: &mut [u8], geo: Geometry, new: Inode) -> NewInode
+pub fn inode_alloc(img: &mut [u8], geo: Geometry, new: Inode) -> Result<InodeNum, Refusal>
     requires { Frame geo img.old }
     ensures { (img.new, new_out result) ≡ leaves (give_inode geo new) img.old }
 {
-    match inode_choose(img, geo) {
-        Place::At(g, k) => give_at(img, geo, g, k, new),
-        Place::Nothing => NewInode::No(Refusal::NoSpace),
-    }
+    let (g, k) = inode_choose(img, geo).ok_or(Refusal::NoSpace)?;
+    give_at(img, geo, g, k, new)
 }
 
 // inode_bump: one link more.
-pub fn inode_bump(img: &mut [u8], geo: Geometry, inr: InodeNum) -> Stored
+pub fn inode_bump(img: &mut [u8], geo: Geometry, inr: InodeNum) -> Result<(), Refusal>
     requires { Frame geo img.old × (inr.0 < geo.ncg * geo.ipg) }
     ensures { (img.new, stored_out result) ≡ leaves (bump geo inr.0) img.old }
 {
@@ -238,8 +186,8 @@ pub fn inode_bump(img: &mut [u8], geo: Geometry, inr: InodeNum) -> Stored
     let o = geo.order;
     let n = inode::read_nlink(img, o, at);
     if n == 65535 {
-        return Stored::No(Refusal::Damaged);
+        return Err(Refusal::Damaged);
     }
     inode::put_nlink(img, o, at, n + 1);
-    Stored::Done
+    Ok(())
 }

@@ -1,4 +1,5 @@
 -- Laws of freeing: the cases of a walk and of a block, and that the layout stays. Assumes nothing.
+use Rattle.std.specs.Prelude.{Some, None, Result, Ok, Err, is_ok, MatchResult}
 use mathlib.Core.Path.{◌≡◌, refl, sym, ap, subst, ◌∙◌}
 use mathlib.Core.Bool.{Bool, true, false}
 use mathlib.Core.List.{List}
@@ -13,14 +14,12 @@ use Rattle.store.proofs.AlwaysLaws.{always-choose, always-refuse}
 use Rattle.store.proofs.CutLaws.{cut_act_lem}
 use Rattle.store.proofs.ActLaws.{step-good, step-bad, leaves-pure, leaves-refuse, choose-yes, choose_no, each-end, each-good, each-bad}
 use Rattle.volume.specs.declared.Geometry.{Geometry}
-use Rattle.inode.specs.declared.Held.{Held}
-use Rattle.inode.specs.declared.Held.TheVariants as Held
 use Rattle.inode.specs.declared.Shape.{Shape}
 use Rattle.inode.specs.Size.{held_at}
 use Rattle.inode.specs.Shape.{sized}
 use Rattle.frame.specs.Frame.{Frame}
 use Rattle.mapping.specs.Mapping.{per_list, entry_at, list_ok}
-use Rattle.balloc_take.specs.Take.{take_back}
+use Rattle.balloc_take.specs.Take.{take_back, took_out}
 use Rattle.balloc_take.proofs.MostLaws.{take-most}
 use Rattle.books.specs.Work.{damaged_out, or_damaged, given}
 use Rattle.books.proofs.KeepLaws.{Keeps, keeps-take, keeps-pure, keeps-refuse, keeps-bind, keeps-choose, keeps-each, keeps_given, keeps-work, keeps-read, work_left, whole-left}
@@ -93,6 +92,16 @@ module _ {S : Type 0} (f : ℕ → ℕ → S → Act S) (geo : Geometry) (a per 
 pub took_left : (geo : Geometry) (a size : ℕ) (img : List ℕ) → Frame geo img → {s : List ℕ} {o : Out (Unit {0})} {n : ℕ} → (s, o, n) ≡ cut_leaves 18446744073709551615 (take_back geo a size) img → (s, o) ≡ leaves (take_back geo a size) img
 took_left geo a size img fr e = whole-left (take_back geo a size) img 18446744073709551615 (let m = take-most geo a size img fr in omega arith) e
 
+-- what a taking back answered, from what is said of it with its refusal called damage
+pub told-got : (r : Result ℕ Refusal) → true ≡ is_ok r → took_out r ≡ got (tt {0})
+told-got (Ok n) v = refl
+told-got (Err e) v = absurd (let z : ◌≡◌ {A = ℕ} 0 1 = cc in let y : ⊥ = omega arith in y)
+
+pub told-refused : (r : Result ℕ Refusal) (d : Refusal) {Q : Refusal → Type 0} → false ≡ is_ok r → MatchResult r (λ n. ◌≡◌ {A = Result ℕ Refusal} (Err d) (Ok n)) Q → ((e : Refusal) → Q e → d ≡ Damaged)
+    → (e : Refusal) × (took_out r ≡ refused e) × (d ≡ Damaged)
+told-refused (Ok n) d v h q = absurd (let z : ◌≡◌ {A = ℕ} 0 1 = cc in let y : ⊥ = omega arith in y)
+told-refused (Err e) d v h q = (e, refl, q e h)
+
 -- ---- the cases of a block
 
 module _ (geo : Geometry) (s : Shape) (a i held : ℕ) (img : List ℕ) where
@@ -100,11 +109,11 @@ module _ (geo : Geometry) (s : Shape) (a i held : ℕ) (img : List ℕ) where
   unfolding free_block returned_for
   block-unsized e = rw e (leaves-refuse Damaged img)
 
-  pub block-past : sized s ≡ true → held_at geo s.size i ≡ Held.PastEnd → ◌≡◌ {A = Left ℕ} (img, refused Damaged) (leaves (free_block geo s a i held) img)
+  pub block-past : sized s ≡ true → held_at geo s.size i ≡ None → ◌≡◌ {A = Left ℕ} (img, refused Damaged) (leaves (free_block geo s a i held) img)
   unfolding free_block returned_for
   block-past e q = rw (e, q) (leaves-refuse Damaged img)
 
-  module _ (e : sized s ≡ true) (n : ℕ) (q : held_at geo s.size i ≡ Held.Bytes n) {x : List ℕ} {o : Out (Unit {0})} (r : (x, o) ≡ leaves (take_back geo a n) img) where
+  module _ (e : sized s ≡ true) (n : ℕ) (q : held_at geo s.size i ≡ Some n) {x : List ℕ} {o : Out (Unit {0})} (r : (x, o) ≡ leaves (take_back geo a n) img) where
     pub block-freed : o ≡ got (tt {0}) → ◌≡◌ {A = Left ℕ} (x, got (held - n / 512)) (leaves (free_block geo s a i held) img)
     unfolding free_block returned_for
     block-freed g = rw (e, q) (leaves-pure _ x ∙ step-good (or_damaged (take_back geo a n)) _ img (work_left (take_back geo a n) img r) (ap damaged_out g))

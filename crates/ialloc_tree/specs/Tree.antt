@@ -1,11 +1,9 @@
 -- 01, "Inodes and mapping": freeing what an address leads to. Assumes nothing: these are definitions.
-use Rattle.std.specs.Prelude.{Bool, true, false, List, ℕ, zero, suc, ◌+◌, ◌-◌, ◌/◌, eqb}
+use Rattle.std.specs.Prelude.{Bool, true, false, List, ℕ, zero, suc, ◌+◌, ◌-◌, ◌/◌, eqb, Option, Some, None, Result, Ok, Err}
 use Rattle.refusal.specs.declared.Refusal.{Refusal}
 use Rattle.refusal.specs.declared.Refusal.TheVariants.{Damaged}
 use Rattle.store.specs.Act.{Out, got, refused, Act, pure, refuse, ◌>>=◌, choose, each}
 use Rattle.volume.specs.declared.Geometry.{Geometry}
-use Rattle.inode.specs.declared.Held.{Held}
-use Rattle.inode.specs.declared.Held.TheVariants as Held
 use Rattle.inode.specs.declared.Shape.{Shape}
 use Rattle.inode.specs.Size.{held_at}
 use Rattle.inode.specs.Shape.{sized}
@@ -13,8 +11,6 @@ use Rattle.mapping.specs.Mapping.{per_list, entry_at, list_ok}
 use Rattle.inode_run.specs.Judge.{ask}
 use Rattle.balloc_take.specs.Take.{take_back}
 use Rattle.books.specs.Work.{or_damaged, given}
-use Rattle.ialloc_tree.specs.declared.Freed.{Freed}
-use Rattle.ialloc_tree.specs.declared.Freed.TheVariants as Freed
 
 -- ---- a walk down the lists, over what is done at a block and with a list once its addresses are done; h is carried along
 
@@ -33,9 +29,9 @@ walk leaf own geo (suc l) a place h = choose (eqb a 0) (pure h) (on_list geo a (
 
 -- ---- freeing
 
-abbrev pub held_out : Held → Out ℕ
-held_out (Held.Bytes n) = got n
-held_out Held.PastEnd = refused Damaged
+abbrev pub held_out : Option ℕ → Out ℕ
+held_out (Some n) = got n
+held_out None = refused Damaged
 
 -- how many bytes the block at an index gives back: of a file past its end, or of a kind that has no size, that is damage
 unfoldable pub returned_for : Geometry → Shape → ℕ → Out ℕ
@@ -58,6 +54,6 @@ abbrev pub free_list : Geometry → Shape → ℕ → ℕ → ℕ → Act ℕ
 free_list geo s level a held = each (at_entry (free_tree geo s level) geo a) (per_list geo) 0 held >>= free_own geo a
 
 -- the code's answer: the blocks that are then held
-abbrev pub freed_out : Freed → Out ℕ
-freed_out (Freed.Held n) = got n
-freed_out (Freed.No e) = refused e
+abbrev pub freed_out : Result ℕ Refusal → Out ℕ
+freed_out (Ok n) = got n
+freed_out (Err e) = refused e

@@ -1,4 +1,5 @@
 -- Laws of a file's size in blocks and fragments. Assumes nothing.
+use Rattle.std.specs.Prelude.{Some, None}
 use mathlib.Core.Path.{◌≡◌, refl, sym, ap, ◌∙◌}
 use mathlib.Core.Bool.{Bool, true, false}
 use Prim.Native.Nat.{ℕ, suc, ◌+◌, ◌-◌, ◌*◌, ◌/◌, ◌%◌, ◌≤◌, ◌<◌}
@@ -10,8 +11,6 @@ use Rattle.volume.specs.declared.Geometry.{Geometry}
 use Rattle.sound.specs.Test.{Sized}
 use Rattle.sound.proofs.Laws.{size_between, unit_between}
 use Rattle.inode.specs.declared.Extent.{Extent}
-use Rattle.inode.specs.declared.Held.{Held}
-use Rattle.inode.specs.declared.Held.TheVariants.{Bytes, PastEnd}
 use Rattle.inode.specs.Size.{size_in, extent_of, held_at}
 
 pub size-is : (bs fs s : ℕ) → size_in bs fs s ≡ record { blocks = s / bs; frags = (s % bs + (fs - 1)) / fs }
@@ -45,14 +44,14 @@ tail-fits geo s z =
     rw (size-is geo.bsize geo.fsize s) (le_trans (mul-le-mul most (le_refl geo.fsize)) whole)
 
 module _ (geo : Geometry) (s i : ℕ) where
-  pub held-block : i < (extent_of geo s).blocks → held_at geo s i ≡ Bytes geo.bsize
+  pub held-block : i < (extent_of geo s).blocks → held_at geo s i ≡ Some geo.bsize
   unfolding held_at
   held-block l = simp (lt-ltb _ _ l)
 
-  pub held-tail : (extent_of geo s).blocks ≤ i → i < (extent_of geo s).blocks + (extent_of geo s).frags → held_at geo s i ≡ Bytes ((extent_of geo s).frags * geo.fsize)
+  pub held-tail : (extent_of geo s).blocks ≤ i → i < (extent_of geo s).blocks + (extent_of geo s).frags → held_at geo s i ≡ Some ((extent_of geo s).frags * geo.fsize)
   unfolding held_at
   held-tail a l = simp (le-ltb _ _ a, lt-ltb _ _ l)
 
-  pub held-past : (extent_of geo s).blocks ≤ i → (extent_of geo s).blocks + (extent_of geo s).frags ≤ i → held_at geo s i ≡ PastEnd
+  pub held-past : (extent_of geo s).blocks ≤ i → (extent_of geo s).blocks + (extent_of geo s).frags ≤ i → held_at geo s i ≡ None
   unfolding held_at
   held-past a l = simp (le-ltb _ _ a, le-ltb _ _ l)

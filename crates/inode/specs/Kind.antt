@@ -1,11 +1,9 @@
 -- 01, "Inodes and mapping": an inode's kind, and what is told of an inode. Assumes nothing: these are definitions.
-use Rattle.std.specs.Prelude.{ℕ, ◌%◌, eqb}
+use Rattle.std.specs.Prelude.{ℕ, ◌%◌, eqb, Option, Some, None}
 use Rattle.inode.specs.declared.Inode.{Inode}
 use Rattle.inode.specs.declared.InodeAttr.{InodeAttr}
 use Rattle.inode.specs.declared.InodeType.{InodeType}
 use Rattle.inode.specs.declared.InodeType.TheVariants.{NamedPipe, CharDevice, Directory, BlockDevice, RegularFile, Symlink, Socket}
-use Rattle.inode.specs.declared.Kind.{Kind}
-use Rattle.inode.specs.declared.Kind.TheVariants.{Is, Nameless}
 use Rattle.inode.specs.Size.{pick}
 
 -- the kind's number: in the mode's high bits, and in a directory record
@@ -19,16 +17,16 @@ type_number Symlink = 10
 type_number Socket = 12
 
 -- the kind that a number names, if it names one
-unfoldable pub kind_of : ℕ → Kind
+unfoldable pub kind_of : ℕ → Option InodeType
 kind_of t =
-    pick (eqb t 1) (Is NamedPipe)
-    (pick (eqb t 2) (Is CharDevice)
-    (pick (eqb t 4) (Is Directory)
-    (pick (eqb t 6) (Is BlockDevice)
-    (pick (eqb t 8) (Is RegularFile)
-    (pick (eqb t 10) (Is Symlink)
-    (pick (eqb t 12) (Is Socket)
-    Nameless))))))
+    pick (eqb t 1) (Some NamedPipe)
+    (pick (eqb t 2) (Some CharDevice)
+    (pick (eqb t 4) (Some Directory)
+    (pick (eqb t 6) (Some BlockDevice)
+    (pick (eqb t 8) (Some RegularFile)
+    (pick (eqb t 10) (Some Symlink)
+    (pick (eqb t 12) (Some Socket)
+    None))))))
 
 -- what `inode_attr` answers; the permissions are the mode's low 12 bits, and the times are told as they are stored
 unfoldable pub attr_of : ℕ → InodeType → Inode → InodeAttr

@@ -1,9 +1,7 @@
 -- 01, "Inodes and mapping": a file's size in blocks and fragments. Assumes nothing: these are definitions.
-use Rattle.std.specs.Prelude.{Bool, true, false, ℕ, ◌+◌, ◌-◌, ◌*◌, ◌/◌, ◌%◌, ltb}
+use Rattle.std.specs.Prelude.{Bool, true, false, ℕ, ◌+◌, ◌-◌, ◌*◌, ◌/◌, ◌%◌, ltb, Option, Some, None}
 use Rattle.volume.specs.declared.Geometry.{Geometry}
 use Rattle.inode.specs.declared.Extent.{Extent}
-use Rattle.inode.specs.declared.Held.{Held}
-use Rattle.inode.specs.declared.Held.TheVariants.{Bytes, PastEnd}
 
 -- "With size s: blocks = s / bsize, frags = (s % bsize) / fsize rounded up"
 unfoldable pub size_in : ℕ → ℕ → ℕ → Extent
@@ -18,8 +16,8 @@ pick true a b = a
 pick false a b = b
 
 -- how many bytes the block at index i of a file of size s holds: "answers for indexes below blocks + frags, as the Rust; only index blocks is a real tail"
-unfoldable pub held_at : Geometry → ℕ → ℕ → Held
+unfoldable pub held_at : Geometry → ℕ → ℕ → Option ℕ
 held_at geo s i =
-    pick (ltb i (extent_of geo s).blocks) (Bytes geo.bsize)
-    (pick (ltb i ((extent_of geo s).blocks + (extent_of geo s).frags)) (Bytes ((extent_of geo s).frags * geo.fsize))
-    PastEnd)
+    pick (ltb i (extent_of geo s).blocks) (Some geo.bsize)
+    (pick (ltb i ((extent_of geo s).blocks + (extent_of geo s).frags)) (Some ((extent_of geo s).frags * geo.fsize))
+    None)

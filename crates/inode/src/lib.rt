@@ -1,7 +1,7 @@
 // inode.rs, data.rs: the inode's record, its constants, and its size in blocks and fragments.
 #![tactic(auto)]
 
-ghost use Rattle.std.specs.Prelude.{◌≡◌, ◌+◌, ◌*◌, ◌/◌, ◌≤◌, ◌<◌, length, [], ◌∷◌};
+ghost use Rattle.std.specs.Prelude.{◌≡◌, ◌+◌, ◌*◌, ◌≤◌, ◌<◌, length, [], ◌∷◌};
 ghost use Rattle.inode.specs.Size.{size_in, extent_of, held_at};
 ghost use Rattle.inode.specs.Shape.{shape_of, address_at, type_of, is_dir, sized, in_place};
 ghost use Rattle.sound.specs.Test.{Sized};
@@ -9,7 +9,7 @@ ghost use Rattle.store.specs.Store.{apply};
 ghost use Rattle.inode.specs.Places.{nlink_at, nlink_write, size_at, size_write, blocks_at, blocks_write, address_write, generation_at, extsize_at, extb_at};
 ghost use Rattle.inode.specs.Kind.{type_number, kind_of, attr_of};
 
-use field::Order;
+use field::{Number, Order};
 use volume::{BlockIdx, FragNum, Geometry, InodeNum};
 
 // A file's whole blocks, and the fragments of its tail.
@@ -17,13 +17,6 @@ use volume::{BlockIdx, FragNum, Geometry, InodeNum};
 pub struct Extent {
     pub blocks: u64,
     pub frags: u64,
-}
-
-// How many bytes a block of a file holds.
-#[derive(Clone, Copy)]
-pub enum Held {
-    Bytes(u64),
-    PastEnd,
 }
 
 // What a record says of how the data lie.
@@ -74,20 +67,13 @@ pub struct Inode {
 // data.rs: InodeType.
 #[derive(Clone, Copy)]
 pub enum InodeType {
-    NamedPipe,
-    CharDevice,
-    Directory,
-    BlockDevice,
-    RegularFile,
-    Symlink,
-    Socket,
-}
-
-// The kind that a record names, if it names one.
-#[derive(Clone, Copy)]
-pub enum Kind {
-    Is(InodeType),
-    Nameless,
+    NamedPipe = 1,
+    CharDevice = 2,
+    Directory = 4,
+    BlockDevice = 6,
+    RegularFile = 8,
+    Symlink = 10,
+    Socket = 12,
 }
 
 // data.rs: InodeAttr. What is told of an inode.
@@ -139,19 +125,19 @@ pub fn size_in(geo: Geometry, size: u64) -> Extent
 }
 
 // inode_get_block_size: how many bytes the block at an index holds.
-pub fn get_block_size(geo: Geometry, size: u64, i: BlockIdx) -> Held
+pub fn get_block_size(geo: Geometry, size: u64, i: BlockIdx) -> Option<u64>
     requires { Sized geo }
     ensures { result ≡ held_at geo size i.0 }
 {
     let e = size_in(geo, size);
     let n = i.0;
     if n < e.blocks {
-        return Held::Bytes(geo.bsize as u64);
+        return Some(geo.bsize as u64);
     }
     if n - e.blocks < e.frags {
-        return Held::Bytes(e.frags * geo.fsize as u64);
+        return Some(e.frags * geo.fsize as u64);
     }
-    Held::PastEnd
+    None
 }
 
 // What the record at `at` says of how the data lie.
@@ -160,9 +146,9 @@ pub fn read_shape(img: &[u8], o: Order, at: usize) -> Shape
     ensures { result ≡ shape_of o at img.now }
 {
     Shape {
-        mode: field::get_u16(o, img, at + 0),
-        size: field::get_u64(o, img, at + 16),
-        blocks: field::get_u64(o, img, at + 24),
+        mode: u16::get(o, img, at + 0),
+        size: u64::get(o, img, at + 16),
+        blocks: u64::get(o, img, at + 24),
     }
 }
 
@@ -171,7 +157,7 @@ pub fn read_address(img: &[u8], o: Order, at: usize, k: u64) -> FragNum
     requires { (at + 256 ≤ length img.now) × (k < 15) }
     ensures { result.0 ≡ address_at o at k img.now }
 {
-    FragNum(field::get_u64(o, img, at + 112 + k as usize * 8))
+    FragNum(u64::get(o, img, at + 112 + k as usize * 8))
 }
 
 // The kind's number, as a directory record has it.
@@ -209,100 +195,93 @@ pub fn read_nlink(img: &[u8], o: Order, at: usize) -> u16
     requires { at + 256 ≤ length img.now }
     ensures { result ≡ nlink_at o at img.now }
 {
-    field::get_u16(o, img, at + 2)
+    u16::get(o, img, at + 2)
 }
 
 pub fn put_nlink(img: &mut [u8], o: Order, at: usize, v: u16)
     requires { at + 256 ≤ length img.old }
     ensures { img.new ≡ apply (nlink_write o at v ∷ []) img.old }
 {
-    field::put_u16(o, img, at + 2, v);
+    v.put(o, img, at + 2);
 }
 
 pub fn read_size(img: &[u8], o: Order, at: usize) -> u64
     requires { at + 256 ≤ length img.now }
     ensures { result ≡ size_at o at img.now }
 {
-    field::get_u64(o, img, at + 16)
+    u64::get(o, img, at + 16)
 }
 
 pub fn put_size(img: &mut [u8], o: Order, at: usize, v: u64)
     requires { at + 256 ≤ length img.old }
     ensures { img.new ≡ apply (size_write o at v ∷ []) img.old }
 {
-    field::put_u64(o, img, at + 16, v);
+    v.put(o, img, at + 16);
 }
 
 pub fn read_blocks(img: &[u8], o: Order, at: usize) -> u64
     requires { at + 256 ≤ length img.now }
     ensures { result ≡ blocks_at o at img.now }
 {
-    field::get_u64(o, img, at + 24)
+    u64::get(o, img, at + 24)
 }
 
 pub fn put_blocks(img: &mut [u8], o: Order, at: usize, v: u64)
     requires { at + 256 ≤ length img.old }
     ensures { img.new ≡ apply (blocks_write o at v ∷ []) img.old }
 {
-    field::put_u64(o, img, at + 24, v);
+    v.put(o, img, at + 24);
 }
 
 pub fn put_address(img: &mut [u8], o: Order, at: usize, k: u64, v: FragNum)
     requires { (at + 256 ≤ length img.old) × (k < 15) }
     ensures { img.new ≡ apply (address_write o at k v.0 ∷ []) img.old }
 {
-    field::put_u64(o, img, at + 112 + k as usize * 8, v.0);
+    v.0.put(o, img, at + 112 + k as usize * 8);
 }
 
 pub fn read_generation(img: &[u8], o: Order, at: usize) -> u32
     requires { at + 256 ≤ length img.now }
     ensures { result ≡ generation_at o at img.now }
 {
-    field::get_u32(o, img, at + 80)
+    u32::get(o, img, at + 80)
 }
 
 pub fn read_extsize(img: &[u8], o: Order, at: usize) -> u32
     requires { at + 256 ≤ length img.now }
     ensures { result ≡ extsize_at o at img.now }
 {
-    field::get_u32(o, img, at + 92)
+    u32::get(o, img, at + 92)
 }
 
 pub fn read_extb(img: &[u8], o: Order, at: usize, j: u64) -> u64
     requires { (at + 256 ≤ length img.now) × (j < 2) }
     ensures { result ≡ extb_at o at j img.now }
 {
-    field::get_u64(o, img, at + 96 + j as usize * 8)
+    u64::get(o, img, at + 96 + j as usize * 8)
 }
 
 // ---- kinds
 
+#[tactic(auto, unfolding(crate::specs::Kind::type_number))]
 pub fn type_number(k: InodeType) -> u8
     ensures { result ≡ type_number k }
 {
-    match k {
-        InodeType::NamedPipe => 1,
-        InodeType::CharDevice => 2,
-        InodeType::Directory => 4,
-        InodeType::BlockDevice => 6,
-        InodeType::RegularFile => 8,
-        InodeType::Symlink => 10,
-        InodeType::Socket => 12,
-    }
+    k as u8
 }
 
-pub fn kind_of(mode: u16) -> Kind
+pub fn kind_of(mode: u16) -> Option<InodeType>
     ensures { result ≡ kind_of (type_of mode) }
 {
     match type_of(mode) {
-        1 => Kind::Is(InodeType::NamedPipe),
-        2 => Kind::Is(InodeType::CharDevice),
-        4 => Kind::Is(InodeType::Directory),
-        6 => Kind::Is(InodeType::BlockDevice),
-        8 => Kind::Is(InodeType::RegularFile),
-        10 => Kind::Is(InodeType::Symlink),
-        12 => Kind::Is(InodeType::Socket),
-        _ => Kind::Nameless,
+        1 => Some(InodeType::NamedPipe),
+        2 => Some(InodeType::CharDevice),
+        4 => Some(InodeType::Directory),
+        6 => Some(InodeType::BlockDevice),
+        8 => Some(InodeType::RegularFile),
+        10 => Some(InodeType::Symlink),
+        12 => Some(InodeType::Socket),
+        _ => None,
     }
 }
 
@@ -312,12 +291,12 @@ pub fn as_attr(inr: InodeNum, kind: InodeType, ino: Inode) -> InodeAttr
 {
     let times = ino.times;
     InodeAttr {
-        inr: inr,
+        inr,
         perm: ino.mode % 4096,
-        kind: kind,
+        kind,
         size: ino.size,
         blocks: ino.blocks,
-        times: times,
+        times,
         nlink: ino.nlink,
         uid: ino.uid,
         gid: ino.gid,

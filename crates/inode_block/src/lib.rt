@@ -1,41 +1,35 @@
 // inode.rs: the calls that ask where and how large the blocks of a file are.
 #![tactic(auto)]
 
-ghost use Rattle.std.specs.Prelude.{◌≡◌, ◌+◌, ◌-◌, ◌≤◌, ◌<◌, length, ltb};
+ghost use Rattle.std.specs.Prelude.{◌≡◌, ◌+◌, ◌≤◌, length, ltb};
 ghost use Rattle.sound.specs.Test.{Sized};
 ghost use Rattle.frame.specs.Frame.{Frame};
 ghost use Rattle.mapping.specs.Zones.{zones_end};
 ghost use Rattle.mapping.specs.Mapping.{per_list};
 ghost use Rattle.inode_read.specs.Calls.{size_out, inode_get_block_size, size_answer, landing_out, resolve_out, inode_resolve_block, resolved_answer};
 
-use inode::{Held, Shape};
-use inode_read::{BlockSize, Known, Resolved};
+use inode::Shape;
 use inode_run::{Run, Spot};
 use refusal::Refusal;
-use volume::{BlockIdx, Geometry, InodeNum};
+use volume::{BlockIdx, FragNum, Geometry, InodeNum};
 
 // How many bytes the block at an index of an inode of this shape holds.
-fn size_of_block(geo: Geometry, s: Shape, i: BlockIdx) -> BlockSize
+fn size_of_block(geo: Geometry, s: Shape, i: BlockIdx) -> Result<u64, Refusal>
     requires { Sized geo }
     ensures { result ≡ size_answer (size_out geo s i.0) }
 {
     if !inode::is_sized(s) {
-        return BlockSize::No(Refusal::Damaged);
+        return Err(Refusal::Damaged);
     }
-    match inode::get_block_size(geo, s.size, i) {
-        Held::Bytes(n) => BlockSize::Bytes(n),
-        Held::PastEnd => BlockSize::No(Refusal::Invalid),
-    }
+    inode::get_block_size(geo, s.size, i).ok_or(Refusal::Invalid)
 }
 
 // inode_get_block_size: how many bytes the block at an index holds.
-pub fn inode_get_block_size(img: &[u8], inr: InodeNum, i: BlockIdx) -> BlockSize
+pub fn inode_get_block_size(img: &[u8], inr: InodeNum, i: BlockIdx) -> Result<u64, Refusal>
     ensures { result ≡ size_answer (inode_get_block_size img.now inr.0 i.0) }
 {
-    match inode_read::know_inode(img, inr) {
-        Known::At(geo, s) => size_of_block(geo, s.shape, i),
-        Known::No(e) => BlockSize::No(e),
-    }
+    let (geo, s) = inode_read::know_inode(img, inr)?;
+    size_of_block(geo, s.shape, i)
 }
 
 // Whether an index lies in one of the zones.
@@ -48,42 +42,42 @@ fn in_zones(geo: Geometry, i: BlockIdx) -> bool
 }
 
 // Where a block of the file lies.
-fn land(img: &[u8], geo: Geometry, s: Spot, i: BlockIdx) -> Resolved
+fn land(img: &[u8], geo: Geometry, s: Spot, i: BlockIdx) -> Result<Option<FragNum>, Refusal>
     requires { Frame geo img.now × (s.at + 256 ≤ length img.now) }
     ensures { result ≡ resolved_answer (landing_out geo s img.now i.0) }
 {
     if inode::is_in_place(s.shape) {
-        return Resolved::No(Refusal::TextInInode);
+        return Err(Refusal::TextInInode);
     }
     let size = s.shape.size;
     match inode_run::run_of(img, geo, s.at, size, i) {
-        Run::At(a, n) => Resolved::At(a),
-        Run::Hole(n) => Resolved::Hole,
-        Run::Past => Resolved::No(Refusal::Damaged),
-        Run::Bad => Resolved::No(Refusal::Damaged),
+        Run::At(a, n) => Ok(Some(a)),
+        Run::Hole(n) => Ok(None),
+        Run::Past => Err(Refusal::Damaged),
+        Run::Bad => Err(Refusal::Damaged),
     }
 }
 
 // Where the block at an index lies, if it is one of the file.
-fn resolve_in(img: &[u8], geo: Geometry, s: Spot, i: BlockIdx) -> Resolved
+fn resolve_in(img: &[u8], geo: Geometry, s: Spot, i: BlockIdx) -> Result<Option<FragNum>, Refusal>
     requires { Frame geo img.now × (s.at + 256 ≤ length img.now) }
     ensures { result ≡ resolved_answer (resolve_out geo s img.now i.0) }
 {
     if !in_zones(geo, i) {
-        return Resolved::No(Refusal::Invalid);
+        return Err(Refusal::Invalid);
     }
-    match size_of_block(geo, s.shape, i) {
-        BlockSize::Bytes(n) => land(img, geo, s, i),
-        BlockSize::No(e) => Resolved::No(e),
-    }
+    let _n = size_of_block(geo, s.shape, i)?;
+    land(img, geo, s, i)
 }
 
 // inode_resolve_block: the address of the block at an index, or a hole.
-pub fn inode_resolve_block(img: &[u8], inr: InodeNum, i: BlockIdx) -> Resolved
+pub fn inode_resolve_block(
+    img: &[u8],
+    inr: InodeNum,
+    i: BlockIdx,
+) -> Result<Option<FragNum>, Refusal>
     ensures { result ≡ resolved_answer (inode_resolve_block img.now inr.0 i.0) }
 {
-    match inode_read::know_inode(img, inr) {
-        Known::At(geo, s) => resolve_in(img, geo, s, i),
-        Known::No(e) => Resolved::No(e),
-    }
+    let (geo, s) = inode_read::know_inode(img, inr)?;
+    resolve_in(img, geo, s, i)
 }

@@ -1,22 +1,19 @@
 -- Laws of growing a file. Assumes nothing.
-use mathlib.Core.Path.{◌≡◌, refl, sym, ap, ◌∙◌}
-use mathlib.Core.Bool.{Bool, true, false, not, ◌&&◌}
+use mathlib.Core.Path.{◌≡◌}
+use mathlib.Core.Bool.{true, false, not, ◌&&◌}
 use mathlib.Core.List.{List}
 use Prim.Native.Nat.{ℕ, ◌+◌, ◌*◌, ◌^◌, ◌≤◌, ◌<◌}
 use native.Mathlib.Nat.{mul-le-mul}
 use native.Mathlib.Omega.{arith}
 use lib.Dec.{ltb}
 use borrow.Author.Tests.{lt-ltb, le-ltb}
-use Rattle.refusal.specs.declared.Refusal.TheVariants.{NotSupported, Damaged}
-use Rattle.store.specs.Act.{Out, got, refused}
+use Rattle.store.specs.Act.{got}
 use Rattle.volume.specs.declared.Geometry.{Geometry}
-use Rattle.volume.specs.declared.FragNum.{FragNum}
 use Rattle.inode.specs.declared.Shape.{Shape}
 use Rattle.inode.specs.declared.Extent.{Extent}
-use Rattle.inode.specs.Size.{pick, extent_of}
+use Rattle.inode.specs.Size.{extent_of}
 use Rattle.inode.specs.Shape.{sized, in_place}
 use Rattle.mapping.specs.declared.Mapped.{Mapped}
-use Rattle.mapping.specs.declared.Mapped.TheVariants as Mapped
 use Rattle.mapping.specs.Mapping.{per_list, mapped}
 use Rattle.mapping.proofs.ZoneLaws.{start-four}
 use Rattle.inode_grow.specs.Grow.{zones_bytes, tail_then, tail_short, tail_held, grow_rule}

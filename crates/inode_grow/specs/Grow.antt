@@ -1,5 +1,5 @@
 -- 01, "Inodes and mapping": whether a file may grow. Assumes nothing: these are definitions.
-use Rattle.std.specs.Prelude.{Bool, true, false, not, ◌&&◌, List, ℕ, ◌*◌, ltb}
+use Rattle.std.specs.Prelude.{Bool, not, ◌&&◌, List, ℕ, ◌*◌, ltb, Result, Ok, Err}
 use Rattle.refusal.specs.declared.Refusal.TheVariants.{NotSupported, Damaged}
 use Rattle.store.specs.Act.{Out, got, refused}
 use Rattle.volume.specs.declared.Geometry.{Geometry}
@@ -7,11 +7,9 @@ use Rattle.inode.specs.declared.Shape.{Shape}
 use Rattle.inode.specs.Size.{pick, extent_of}
 use Rattle.inode.specs.Shape.{sized, in_place}
 use Rattle.mapping.specs.declared.Mapped.{Mapped}
-use Rattle.mapping.specs.declared.Mapped.TheVariants as Mapped
 use Rattle.mapping.specs.Zones.{zones_end}
 use Rattle.mapping.specs.Mapping.{per_list, mapped}
-use Rattle.inode_grow.specs.declared.Growth.{Growth}
-use Rattle.inode_grow.specs.declared.Growth.TheVariants as Growth
+use Rattle.refusal.specs.declared.Refusal.{Refusal}
 
 -- the first byte past the triple zone
 unfoldable pub zones_bytes : Geometry → ℕ
@@ -38,6 +36,6 @@ grow_rule geo at s new img =
     pick (sized s && not (in_place s) && tail_short geo s.size new) (tail_held (mapped geo at img (extent_of geo s.size).blocks)) (got (tt {0}))
 
 -- the code's answer
-abbrev pub growth_out : Growth → Out (Unit {0})
-growth_out Growth.Free = got (tt {0})
-growth_out (Growth.No e) = refused e
+abbrev pub growth_out : Result (Unit {0}) Refusal → Out (Unit {0})
+growth_out (Ok u) = got (tt {0})
+growth_out (Err e) = refused e

@@ -12,12 +12,6 @@ use mapping::Mapped;
 use refusal::Refusal;
 use volume::{BlockIdx, Geometry};
 
-#[derive(Clone, Copy)]
-pub enum Growth {
-    Free,
-    No(Refusal),
-}
-
 // The first byte past the triple zone.
 pub fn zones_bytes(geo: Geometry) -> u64
     requires { geo.bsize ≤ 65536 }
@@ -61,18 +55,18 @@ fn asks_more(geo: Geometry, s: Shape, new: u64) -> bool
 }
 
 // 45 for a tail that is held and must grow.
-pub fn grow_rule(img: &[u8], geo: Geometry, at: usize, s: Shape, new: u64) -> Growth
+pub fn grow_rule(img: &[u8], geo: Geometry, at: usize, s: Shape, new: u64) -> Result<(), Refusal>
     requires { Frame geo img.now × (at + 256 ≤ length img.now) }
     ensures { growth_out result ≡ grow_rule geo at s new img.now }
 {
     if !asks_more(geo, s, new) {
-        return Growth::Free;
+        return Ok(());
     }
     let e = inode::size_in(geo, s.size);
     match mapping::resolve_block(img, geo, at, BlockIdx(e.blocks)) {
-        Mapped::At(a) => Growth::No(Refusal::NotSupported),
-        Mapped::Hole => Growth::Free,
-        Mapped::Bad => Growth::No(Refusal::Damaged),
-        Mapped::Past => Growth::No(Refusal::Damaged),
+        Mapped::At(_) => Err(Refusal::NotSupported),
+        Mapped::Hole => Ok(()),
+        Mapped::Bad => Err(Refusal::Damaged),
+        Mapped::Past => Err(Refusal::Damaged),
     }
 }

@@ -1,4 +1,5 @@
 -- What is relied on of changing attributes: no byte but the record's changes, and the layout stays at every cut. Assumes nothing.
+use Rattle.std.specs.Prelude.{Option, Some, None, Ok}
 use mathlib.Core.Path.{◌≡◌, refl}
 use mathlib.Core.List.{List}
 use Prim.Native.Nat.{ℕ, ◌*◌, ◌<◌}
@@ -10,13 +11,10 @@ use Rattle.store.proofs.AlwaysLaws.{always-choose, always-refuse}
 use Rattle.volume.specs.declared.Geometry.{Geometry}
 use Rattle.volume.specs.declared.Volume.{Volume}
 use Rattle.volume.specs.Volume.{inode_at}
-use Rattle.sound.specs.declared.Taken.TheVariants.{Sound}
 use Rattle.sound.specs.Test.{taken_of}
 use Rattle.frame.specs.Frame.{Frame}
 use Rattle.inode.specs.declared.InodeAttr.{InodeAttr}
 use Rattle.inode.specs.declared.InodeType.{InodeType}
-use Rattle.inode.specs.declared.Kind.{Kind}
-use Rattle.inode.specs.declared.Kind.TheVariants.{Is, Nameless}
 use Rattle.inode.specs.Shape.{type_of}
 use Rattle.inode.specs.Kind.{kind_of, attr_of}
 use Rattle.inode_record.specs.Record.{inode_of, inode_store}
@@ -42,12 +40,12 @@ module _ (geo : Geometry) (i : ℕ) (a : InodeAttr) (img : List ℕ) where
       let new = changed (inode_of geo.order (inode_at geo i) img) a in
       only-bind (store (inode_store geo.order (inode_at geo i) new)) (λ _. pure (attr_of i k new)) img (only_store (inode-inside geo.order (inode_at geo i) new) img) (λ _ _. only-pure _ _)
 
-  kind-only : (k : Kind) → Only (Range (inode_at geo i) 256) (by_kind geo i (inode_at geo i) a k img).stores
-  kind-only (Is k) = modify-only k
-  kind-only Nameless = only-refuse InodeAttr Damaged img
+  kind-only : (k : Option InodeType) → Only (Range (inode_at geo i) 256) (by_kind geo i (inode_at geo i) a k img).stores
+  kind-only (Some k) = modify-only k
+  kind-only None = only-refuse InodeAttr Damaged img
 
 -- the public call, finished or refused, on a volume that is taken
-pub call_only : (vol : Volume) (i : ℕ) (a : InodeAttr) (img : List ℕ) (geo : Geometry) → taken_of img ≡ Sound geo → Only (Range (inode_at geo i) 256) (inode_modify vol i a img).stores
+pub call_only : (vol : Volume) (i : ℕ) (a : InodeAttr) (img : List ℕ) (geo : Geometry) → taken_of img ≡ Ok geo → Only (Range (inode_at geo i) 256) (inode_modify vol i a img).stores
 unfolding inode_modify writing modify_for
 call_only vol i a img geo t =
     rw t (only-choose vol.writable (modify_for geo i a) (refuse ReadOnly) img (λ _. go (find_inode geo img i) refl) (λ _. only-refuse InodeAttr ReadOnly img))
@@ -67,12 +65,12 @@ module _ (geo : Geometry) (i : ℕ) (l : i < geo.ncg * geo.ipg) (a : InodeAttr) 
       (λ x. keeps-bind geo (keeps-store geo (λ _. inode_store geo.order (inode_at geo i) (changed (inode_of geo.order (inode_at geo i) x) a)) (λ img fr. record_steady geo img fr i l (inode-inside geo.order (inode_at geo i) (changed (inode_of geo.order (inode_at geo i) x) a))))
       (λ _. keeps-pure geo (attr_of i k (changed (inode_of geo.order (inode_at geo i) x) a))))
 
-  keeps-kind : (k : Kind) → Keeps geo (by_kind geo i (inode_at geo i) a k)
-  keeps-kind (Is k) = keeps-modify k
-  keeps-kind Nameless = keeps-refuse geo InodeAttr Damaged
+  keeps-kind : (k : Option InodeType) → Keeps geo (by_kind geo i (inode_at geo i) a k)
+  keeps-kind (Some k) = keeps-modify k
+  keeps-kind None = keeps-refuse geo InodeAttr Damaged
 
 -- the public call, on a volume that is taken
-pub call_keeps : (vol : Volume) (i : ℕ) (a : InodeAttr) (img : List ℕ) (geo : Geometry) → taken_of img ≡ Sound geo → Always (Steady geo img) (inode_modify vol i a) img
+pub call_keeps : (vol : Volume) (i : ℕ) (a : InodeAttr) (img : List ℕ) (geo : Geometry) → taken_of img ≡ Ok geo → Always (Steady geo img) (inode_modify vol i a) img
 unfolding inode_modify writing modify_for
 call_keeps vol i a img geo t =
     always_at (λ x. entering vol (λ geo. modify_for geo i a) (taken_of x)) img

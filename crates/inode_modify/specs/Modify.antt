@@ -1,5 +1,5 @@
 -- 01: the public call that changes what an inode's record says of its owners, permission and times. Assumes nothing: these are definitions.
-use Rattle.std.specs.Prelude.{List, [], ◌∷◌, ℕ, ◌+◌, ◌*◌, ◌/◌, ◌%◌}
+use Rattle.std.specs.Prelude.{List, [], ◌∷◌, ℕ, ◌+◌, ◌*◌, ◌/◌, ◌%◌, Option, Some, None, Result, Ok, Err}
 use Rattle.refusal.specs.declared.Refusal.TheVariants.{Damaged}
 use Rattle.store.specs.Act.{Out, got, refused, Act, pure, refuse, store, ◌>>=◌}
 use Rattle.volume.specs.declared.Geometry.{Geometry}
@@ -7,8 +7,6 @@ use Rattle.volume.specs.declared.Volume.{Volume}
 use Rattle.inode.specs.declared.Inode.{Inode}
 use Rattle.inode.specs.declared.InodeAttr.{InodeAttr}
 use Rattle.inode.specs.declared.InodeType.{InodeType}
-use Rattle.inode.specs.declared.Kind.{Kind}
-use Rattle.inode.specs.declared.Kind.TheVariants.{Is, Nameless}
 use Rattle.inode.specs.declared.Shape.{Shape}
 use Rattle.inode.specs.Shape.{type_of}
 use Rattle.inode.specs.Kind.{kind_of, attr_of}
@@ -16,8 +14,7 @@ use Rattle.inode_record.specs.Record.{inode_of, inode_store}
 use Rattle.inode_run.specs.Find.{find_inode}
 use Rattle.balloc.specs.Calls.{writing}
 use Rattle.books.specs.Work.{given}
-use Rattle.inode_modify.specs.declared.Modified.{Modified}
-use Rattle.inode_modify.specs.declared.Modified.TheVariants as Modified
+use Rattle.refusal.specs.declared.Refusal.{Refusal}
 
 -- the record with the type that it has, and with the wanted permission, owners, times and flags; all else stays
 unfoldable pub changed : Inode → InodeAttr → Inode
@@ -50,9 +47,9 @@ modify_at geo i at k a = λ img.
     (store (inode_store geo.order at (changed (inode_of geo.order at img) a)) >>= (λ _. pure (attr_of i k (changed (inode_of geo.order at img) a)))) img
 
 -- a kind that has no name is damage
-abbrev pub by_kind : Geometry → ℕ → ℕ → InodeAttr → Kind → Act InodeAttr
-by_kind geo i at a (Is k) = modify_at geo i at k a
-by_kind geo i at a Nameless = refuse Damaged
+abbrev pub by_kind : Geometry → ℕ → ℕ → InodeAttr → Option InodeType → Act InodeAttr
+by_kind geo i at a (Some k) = modify_at geo i at k a
+by_kind geo i at a None = refuse Damaged
 
 unfoldable pub modify_for : Geometry → ℕ → InodeAttr → Act InodeAttr
 modify_for geo i a = λ img. given (find_inode geo img i) (λ s. by_kind geo i s.at a (kind_of (type_of s.shape.mode))) img
@@ -62,6 +59,6 @@ unfoldable pub inode_modify : Volume → ℕ → InodeAttr → Act InodeAttr
 inode_modify vol i a = writing vol (λ geo. modify_for geo i a)
 
 -- the code's answer
-abbrev pub modified_out : Modified → Out InodeAttr
-modified_out (Modified.To a) = got a
-modified_out (Modified.No e) = refused e
+abbrev pub modified_out : Result InodeAttr Refusal → Out InodeAttr
+modified_out (Ok a) = got a
+modified_out (Err e) = refused e

@@ -5,18 +5,9 @@ ghost use Rattle.std.specs.Prelude.{◌≡◌, ◌+◌, ◌*◌, ◌/◌, ◌%�
 ghost use Rattle.store.specs.Act.{got, leaves};
 ghost use Rattle.inode_modify.specs.Modify.{changed, modify_at, inode_modify, modified_out};
 
-use inode::{Inode, InodeAttr, InodeType, Kind};
-use inode_run::Found;
+use inode::{Inode, InodeAttr, InodeType};
 use refusal::Refusal;
-use sound::Taken;
 use volume::{Geometry, InodeNum, Volume};
-
-// What the new record says, or a refusal.
-#[derive(Clone, Copy)]
-pub enum Modified {
-    To(InodeAttr),
-    No(Refusal),
-}
 
 // The type's bits of a mode, and the permission's of another.
 fn mode_with(mode: u16, perm: u16) -> u16
@@ -76,26 +67,20 @@ fn modify_at(
 }
 
 // inode_modify.
-pub fn inode_modify(img: &mut [u8], vol: Volume, inr: InodeNum, a: InodeAttr) -> Modified
+pub fn inode_modify(
+    img: &mut [u8],
+    vol: Volume,
+    inr: InodeNum,
+    a: InodeAttr,
+) -> Result<InodeAttr, Refusal>
     ensures { (img.new, modified_out result) ≡ leaves (inode_modify vol inr.0 a) img.old }
 {
-    let t = sound::take_volume(img);
-    match t {
-        Taken::Sound(geo) => {
-            if !vol.writable {
-                return Modified::No(Refusal::ReadOnly);
-            }
-            match inode_run::find_inode(img, geo, inr) {
-                Found::At(spot) => {
-                    let s = spot.shape;
-                    match inode::kind_of(s.mode) {
-                        Kind::Is(k) => Modified::To(modify_at(img, geo, inr, spot.at, k, a)),
-                        Kind::Nameless => Modified::No(Refusal::Damaged),
-                    }
-                }
-                Found::No(e) => Modified::No(e),
-            }
-        }
-        Taken::Unsound => Modified::No(Refusal::Damaged),
+    let geo = sound::take_volume(img)?;
+    if !vol.writable {
+        return Err(Refusal::ReadOnly);
     }
+    let spot = inode_run::find_inode(img, geo, inr)?;
+    let s = spot.shape;
+    let k = inode::kind_of(s.mode).ok_or(Refusal::Damaged)?;
+    Ok(modify_at(img, geo, inr, spot.at, k, a))
 }

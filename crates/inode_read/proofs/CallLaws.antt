@@ -1,8 +1,9 @@
 -- Laws of the calls that read: each refusal, and each good answer. Assumes nothing.
+use Rattle.std.specs.Prelude.{Some, None, Ok, Err}
 use mathlib.Core.Path.{◌≡◌, ap}
 use mathlib.Core.Bool.{true, false}
 use mathlib.Core.List.{List}
-use Prim.Native.Nat.{ℕ, ◌-◌}
+use Prim.Native.Nat.{ℕ}
 use lib.Dec.{ltb}
 use borrow.Author.Tests.{eq-eqb, ne_eqb}
 use Rattle.refusal.specs.declared.Refusal.{Refusal}
@@ -10,7 +11,6 @@ use Rattle.refusal.specs.declared.Refusal.TheVariants.{Damaged, Invalid, TextInI
 use Rattle.store.specs.Act.{Out, got, refused}
 use Rattle.volume.specs.declared.Geometry.{Geometry}
 use Rattle.inode.specs.declared.Shape.{Shape}
-use Rattle.inode.specs.declared.Held.TheVariants as Held
 use Rattle.inode.specs.Size.{held_at}
 use Rattle.inode.specs.Shape.{sized, in_place}
 use Rattle.mapping.specs.Zones.{zones_end}
@@ -19,10 +19,6 @@ use Rattle.inode_run.specs.declared.Spot.{Spot}
 use Rattle.inode_run.specs.declared.Run.{Run}
 use Rattle.inode_run.specs.Judge.{and_then}
 use Rattle.inode_run.specs.Run.{run_at}
-use Rattle.inode_read.specs.declared.BlockSize.{BlockSize}
-use Rattle.inode_read.specs.declared.BlockSize.TheVariants as BlockSize
-use Rattle.inode_read.specs.declared.Resolved.{Resolved}
-use Rattle.inode_read.specs.declared.Resolved.TheVariants as Resolved
 use Rattle.inode_read.specs.Read.{read_at}
 use Rattle.inode_read.specs.Calls.{Place, place_in, size_out, inode_get_block_size, size_answer, landed, landing_out, resolve_out, inode_resolve_block, resolved_answer, read_out, read_found, inode_read}
 use native.Mathlib.Omega.{arith}
@@ -30,30 +26,30 @@ use native.Mathlib.Omega.{arith}
 -- ---- how many bytes a block holds
 
 module _ (geo : Geometry) (s : Shape) (i : ℕ) where
-  pub size-unsized : sized s ≡ false → BlockSize.No Damaged ≡ size_answer (size_out geo s i)
+  pub size-unsized : sized s ≡ false → Err Damaged ≡ size_answer (size_out geo s i)
   unfolding size_out
   size-unsized z = rw z
 
-  pub size-held : sized s ≡ true → (n : ℕ) → Held.Bytes n ≡ held_at geo s.size i → BlockSize.Bytes n ≡ size_answer (size_out geo s i)
+  pub size-held : sized s ≡ true → (n : ℕ) → Some n ≡ held_at geo s.size i → Ok n ≡ size_answer (size_out geo s i)
   unfolding size_out
   size-held z n h = rw (z, ← h)
 
-  pub size-past : sized s ≡ true → Held.PastEnd ≡ held_at geo s.size i → BlockSize.No Invalid ≡ size_answer (size_out geo s i)
+  pub size-past : sized s ≡ true → None ≡ held_at geo s.size i → Err Invalid ≡ size_answer (size_out geo s i)
   unfolding size_out
   size-past z h = rw (z, ← h)
 
-pub size-got : (o : Out ℕ) (n : ℕ) → BlockSize.Bytes n ≡ size_answer o → o ≡ got n
+pub size-got : (o : Out ℕ) (n : ℕ) → Ok n ≡ size_answer o → o ≡ got n
 size-got (got m) n e = let q : m ≡ n = cc in ap got q
 size-got (refused r) n e = absurd (let z : ◌≡◌ {A = ℕ} 0 1 = cc in let y : ⊥ = omega arith in y)
 
-pub size-refused : (o : Out ℕ) (e : Refusal) → BlockSize.No e ≡ size_answer o → o ≡ refused e
+pub size-refused : (o : Out ℕ) (e : Refusal) → Err e ≡ size_answer o → o ≡ refused e
 size-refused (got m) e h = absurd (let z : ◌≡◌ {A = ℕ} 0 1 = cc in let y : ⊥ = omega arith in y)
 size-refused (refused r) e h = let q : r ≡ e = cc in ap refused q
 
 -- ---- where it lies
 
 module _ (geo : Geometry) (s : Spot) (img : List ℕ) (i : ℕ) where
-  pub land-in-place : in_place s.shape ≡ true → Resolved.No TextInInode ≡ resolved_answer (landing_out geo s img i)
+  pub land-in-place : in_place s.shape ≡ true → Err TextInInode ≡ resolved_answer (landing_out geo s img i)
   unfolding landing_out
   land-in-place h = rw h
 
@@ -61,7 +57,7 @@ module _ (geo : Geometry) (s : Spot) (img : List ℕ) (i : ℕ) where
   unfolding landing_out
   land-run h r e = rw (h, ← e)
 
-  pub resolve-past-zones : ltb i (zones_end (per_list geo)) ≡ false → Resolved.No Invalid ≡ resolved_answer (resolve_out geo s img i)
+  pub resolve-past-zones : ltb i (zones_end (per_list geo)) ≡ false → Err Invalid ≡ resolved_answer (resolve_out geo s img i)
   unfolding resolve_out
   resolve-past-zones h = rw h
 

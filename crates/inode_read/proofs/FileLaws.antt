@@ -12,7 +12,6 @@ use Rattle.field.proofs.Laws.{length-part, get_or-part, length-zeros, get_or-zer
 use Rattle.volume.specs.declared.Geometry.{Geometry}
 use Rattle.volume.specs.declared.FragNum.{FragNum}
 use Rattle.inode_run.specs.declared.Run.{Run}
-use Rattle.inode_run.specs.declared.Run.TheVariants as Run
 use Rattle.inode_run.specs.Run.{run_at, readable, byte_in, file_byte, file_bytes}
 use Rattle.inode_read.specs.Read.{piece_of, Reaches}
 

@@ -1,8 +1,9 @@
 -- A block holds what the file's size asks of it, and its run lies in the image. Assumes nothing.
+use Rattle.std.specs.Prelude.{Some}
 use mathlib.Core.Path.{◌≡◌, refl, sym, ap, subst, ◌∙◌}
 use mathlib.Core.Bool.{Bool, true, false}
 use mathlib.Core.List.{List}
-use mathlib.Core.Logic.{◌⊎◌, ⊎_elim}
+use mathlib.Core.Logic.{⊎_elim}
 use Prim.Native.Nat.{ℕ, ◌+◌, ◌-◌, ◌*◌, ◌/◌, ◌%◌, ◌≤◌, ◌<◌}
 use native.Mathlib.Nat.{div-add-mod', le-div_iff_mul-le, mul-div_left, mul-div_right, mul_comm, lt-div-mul-add}
 use native.Mathlib.Omega.{arith}
@@ -12,14 +13,11 @@ use Rattle.sound.specs.Test.{Sized}
 use Rattle.frame.specs.Frame.{Frame, run_okb}
 use Rattle.frame.proofs.Places.{order, run_is, run_inside}
 use Rattle.inode.specs.declared.Extent.{Extent}
-use Rattle.inode.specs.declared.Held.TheVariants as Held
 use Rattle.inode.specs.Size.{pick, extent_of, held_at}
 use Rattle.inode.proofs.SizeLaws.{size-is, units, held-block, held-tail}
 use Rattle.mapping.specs.declared.Mapped.{Mapped}
-use Rattle.mapping.specs.declared.Mapped.TheVariants as Mapped
 use Rattle.mapping.specs.Mapping.{mapped}
 use Rattle.inode_run.specs.declared.Run.{Run}
-use Rattle.inode_run.specs.declared.Run.TheVariants as Run
 use Rattle.inode_run.specs.Run.{run_for, run_at}
 use Rattle.inode_run.proofs.RunLaws.{run-at-is}
 use Rattle.inode_read.specs.Read.{Reaches}
@@ -30,7 +28,7 @@ block-some geo z = omega (arith, (units geo z).block)
 -- the block holds `held` bytes, `end` of them at least, in whole fragments
 pub record Covers (geo : Geometry) (size i end : ℕ) : Type 0 where
   pub held : ℕ
-  pub is : held_at geo size i ≡ Held.Bytes held
+  pub is : held_at geo size i ≡ Some held
   pub far : end ≤ held
   pub whole : held / geo.fsize * geo.fsize ≡ held
 
@@ -89,7 +87,7 @@ module _ (geo : Geometry) (img : List ℕ) (fr : Frame geo img) (at size i end :
       fits c a true ok = omega (arith, run_inside geo img fr a.0 (c.held / geo.fsize) (run_is geo img a.0 (c.held / geo.fsize) ok), c.whole, c.far)
       fits c a false ok = tt {0}
 
-      go : (c : Covers geo size i end) (m : Mapped) → Reaches geo img (run_for geo img (Held.Bytes c.held) m) end
+      go : (c : Covers geo size i end) (m : Mapped) → Reaches geo img (run_for geo img (Some c.held) m) end
       go c (Mapped.At a) = fits c a (run_okb geo img a.0 (c.held / geo.fsize)) refl
       go c Mapped.Hole = tt {0}
       go c Mapped.Bad = tt {0}

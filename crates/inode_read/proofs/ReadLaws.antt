@@ -1,6 +1,7 @@
 -- Laws of reading block by block: how it begins, one block more, and how it ends. Assumes nothing.
+use Rattle.std.specs.Prelude.{Some, None, Ok, Err}
 use mathlib.Core.Path.{◌≡◌, refl, sym, ap, subst, ◌∙◌}
-use mathlib.Core.Bool.{true, false, not}
+use mathlib.Core.Bool.{true, false}
 use mathlib.Core.List.{List}
 use mathlib.Core.Logic.{◌⊎◌, inl, inr, ⊎_elim}
 use Prim.Native.Nat.{ℕ, ◌+◌, ◌-◌, ◌*◌, ◌/◌, ◌%◌, ◌≤◌, ◌<◌, min}
@@ -13,15 +14,11 @@ use Rattle.refusal.specs.declared.Refusal.TheVariants.{Damaged}
 use Rattle.store.specs.Act.{got, refused}
 use Rattle.volume.specs.declared.Geometry.{Geometry}
 use Rattle.volume.specs.declared.FragNum.{FragNum}
-use Rattle.bits.specs.declared.Found.TheVariants.{At, Nothing}
 use Rattle.bits.specs.Upto.{first}
 use Rattle.bits.proofs.UptoLaws.{first-here, first_next, first-end, first_missing, first_fails}
 use Rattle.frame.proofs.Places.{order}
 use Rattle.inode_run.specs.declared.Run.{Run}
-use Rattle.inode_run.specs.declared.Run.TheVariants as Run
 use Rattle.inode_run.specs.Run.{run_at, readable, file_bytes}
-use Rattle.inode_read.specs.declared.Read.{Read}
-use Rattle.inode_read.specs.declared.Read.TheVariants as Read
 use Rattle.inode_read.specs.Read.{bad, past_last, stop, read_at, piece_of, Reaches}
 use Rattle.inode_read.specs.Calls.{read_answer}
 use Rattle.inode_read.proofs.FileLaws.{bytes-none, length-bytes, bytes_append, piece_bytes}
@@ -122,11 +119,11 @@ module _ (geo : Geometry) (at size : ℕ) (img : List ℕ) (b : 0 < geo.bsize) w
   some-asked : (off n : ℕ) → 0 < n → off / geo.bsize ≤ past_last geo off n
   some-asked off n p = omega (arith, div_mono geo.bsize off (off + n - 1) b (omega arith))
 
-  pub stop-good : (off n : ℕ) → 0 < n → stop geo at size img off n ≡ Nothing → AllGood off n
+  pub stop-good : (off n : ℕ) → 0 < n → stop geo at size img off n ≡ None → AllGood off n
   unfolding stop
   stop-good off n p e = record { good = λ j l u. first_missing (bad geo at size img) _ _ e j l (omega (arith, some-asked off n p)) }
 
-  pub good-stop : (off n : ℕ) → 0 < n → AllGood off n → stop geo at size img off n ≡ Nothing
+  pub good-stop : (off n : ℕ) → 0 < n → AllGood off n → stop geo at size img off n ≡ None
   unfolding stop
   good-stop off n p g = first_fails (bad geo at size img) _ _ (λ j l u. g.good j l (omega (arith, some-asked off n p)))
 
@@ -169,28 +166,28 @@ module _ (geo : Geometry) (at size : ℕ) (img : List ℕ) (off n : ℕ) (buf : 
         rest = refl;
       }
 
-  pub read_whole : stop geo at size img off n ≡ Nothing → read_at geo at size img off n buf ≡ (put 0 (file_bytes geo at size img off n) buf, got n)
+  pub read_whole : stop geo at size img off n ≡ None → read_at geo at size img off n buf ≡ (put 0 (file_bytes geo at size img off n) buf, got n)
   unfolding read_at
   read_whole e = rw e
 
-  pub read_short : (j : ℕ) → stop geo at size img off n ≡ At j → read_at geo at size img off n buf ≡ (put 0 (file_bytes geo at size img off (j * geo.bsize - off)) buf, refused Damaged)
+  pub read_short : (j : ℕ) → stop geo at size img off n ≡ Some j → read_at geo at size img off n buf ≡ (put 0 (file_bytes geo at size img off (j * geo.bsize - off)) buf, refused Damaged)
   unfolding read_at
   read_short j e = rw e
 
   module _ (b : 0 < geo.bsize) (now : List ℕ) (i from done : ℕ) (g : Reading now i from done) where
-    pub reading-end : n ≤ done → done ≤ n → (now, Read.Bytes n) ≡ read_answer (read_at geo at size img off n buf)
+    pub reading-end : n ≤ done → done ≤ n → (now, Ok n) ≡ read_answer (read_at geo at size img off n buf)
     reading-end l m =
         let q : done ≡ n = omega arith in
         let e = g.rest ∙ first-end (bad geo at size img) (past_last geo off n) i (g.turn.past l) in
-        ap (λ (x : List ℕ). (x, Read.Bytes n)) (g.left ∙ ap (λ (k : ℕ). put 0 (file_bytes geo at size img off k) buf) q) ∙ sym (ap read_answer (read_whole e))
+        ap (λ (x : List ℕ). (x, Ok n)) (g.left ∙ ap (λ (k : ℕ). put 0 (file_bytes geo at size img off k) buf) q) ∙ sym (ap read_answer (read_whole e))
 
     module _ (l : done < n) (r : Run) (er : r ≡ run_at geo at size img i) (num : ℕ) (new : List ℕ) (en : new ≡ put done (piece_of geo img r from num) now) where
       -- a block that cannot be read
-      pub reading-stop : readable r ≡ false → (new, Read.No Damaged) ≡ read_answer (read_at geo at size img off n buf)
+      pub reading-stop : readable r ≡ false → (new, Err Damaged) ≡ read_answer (read_at geo at size img off n buf)
       reading-stop h =
           let hit : bad geo at size img i ≡ true = rw (← er, h) in
           let e = g.rest ∙ first-here (bad geo at size img) (past_last geo off n) i (turn_below geo.bsize off n b i from done g.turn l) hit in
-          ap (λ (x : List ℕ). (x, Read.No Damaged)) (en ∙ sym (piece-none geo img done from num now r h) ∙ g.left ∙ ap (λ (k : ℕ). put 0 (file_bytes geo at size img off k) buf) (sym (g.turn.before l))) ∙ sym (ap read_answer (read_short i e))
+          ap (λ (x : List ℕ). (x, Err Damaged)) (en ∙ sym (piece-none geo img done from num now r h) ∙ g.left ∙ ap (λ (k : ℕ). put 0 (file_bytes geo at size img off k) buf) (sym (g.turn.before l))) ∙ sym (ap read_answer (read_short i e))
 
       -- one block more
       pub reading-next : readable r ≡ true → num ≡ min (geo.bsize - from) (n - done) → Reaches geo img r (from + num) → Reading new (i + 1) 0 (done + num)

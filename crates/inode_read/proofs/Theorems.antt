@@ -1,4 +1,5 @@
 -- Reading: byte by byte, in two parts, at or past the size, and what a refusal leaves. That two answers which meet one promise coincide is balloc's `coincide`. Assumes nothing.
+use Rattle.std.specs.Prelude.{Option, Some, None}
 use mathlib.Core.Path.{◌≡◌, refl, sym, ap, subst, ◌∙◌}
 use mathlib.Core.Bool.{Bool, true, false}
 use mathlib.Core.List.{List}
@@ -7,13 +8,11 @@ use Prim.Native.Nat.{ℕ, ◌+◌, ◌-◌, ◌*◌, ◌≤◌, ◌<◌}
 use native.Mathlib.Nat.{eq-zero-or-pos, min-le_left, min-le_right, min-eq_left, min-eq_right}
 use native.Mathlib.Omega.{arith}
 use lib.ListN.{length, get_or}
-use Rattle.field.specs.Field.{put, part}
+use Rattle.field.specs.Field.{put}
 use Rattle.field.proofs.Laws.{put-none, part-put, part_at, get_or-put, length-put}
 use Rattle.refusal.specs.declared.Refusal.{Refusal}
 use Rattle.refusal.specs.declared.Refusal.TheVariants.{Damaged}
 use Rattle.store.specs.Act.{Out, got, refused}
-use Rattle.bits.specs.declared.Found.{Found}
-use Rattle.bits.specs.declared.Found.TheVariants.{At, Nothing}
 use Rattle.frame.proofs.Places.{order}
 use Rattle.inode.specs.Shape.{sized, in_place}
 use Rattle.inode_run.specs.Run.{file_byte, file_bytes}
@@ -33,13 +32,13 @@ bytes_of p img off n = file_bytes p.geo p.spot.at p.spot.shape.size img off n
 abbrev pub byte_of : Place → List ℕ → ℕ → ℕ
 byte_of p img x = file_byte p.geo p.spot.at p.spot.shape.size img x
 
-abbrev stop_of : Place → List ℕ → ℕ → ℕ → Found
+abbrev stop_of : Place → List ℕ → ℕ → ℕ → Option ℕ
 stop_of p img off n = stop p.geo p.spot.at p.spot.shape.size img off n
 
 record Clear (p : Place) (img : List ℕ) (off n : ℕ) : Type 0 where
   pub blocks : in_place p.spot.shape ≡ false
   pub kind : sized p.spot.shape ≡ true
-  pub all : stop_of p img off n ≡ Nothing
+  pub all : stop_of p img off n ≡ None
 
 -- nothing is asked for, or all can be read
 abbrev Fine : Place → List ℕ → ℕ → ℕ → Type 0
@@ -67,16 +66,16 @@ fine-whole p img off n buf f = ⊎_elim none (λ c. ⊎_elim none (λ l. some l 
 data Ended (p : Place) (img : List ℕ) (off n : ℕ) (buf : List ℕ) : Type 0 where
   whole : Fine p img off n → Ended p img off n buf
   judged : (e : Refusal) → read_out p.geo p.spot img off n buf ≡ (buf, refused e) → Ended p img off n buf
-  short : (j : ℕ) → stop_of p img off n ≡ At j → read_out p.geo p.spot img off n buf ≡ (put 0 (bytes_of p img off (j * p.geo.bsize - off)) buf, refused Damaged) → Ended p img off n buf
+  short : (j : ℕ) → stop_of p img off n ≡ Some j → read_out p.geo p.spot img off n buf ≡ (put 0 (bytes_of p img off (j * p.geo.bsize - off)) buf, refused Damaged) → Ended p img off n buf
 
 ended : (p : Place) (img : List ℕ) (off n : ℕ) (buf : List ℕ) → Ended p img off n buf
 ended p img off n buf = ⊎_elim (λ z. whole (inl z)) (λ l. some l (in_place p.spot.shape) refl (sized p.spot.shape) refl (stop_of p img off n) refl) (eq-zero-or-pos n)
   where
-    some : 0 < n → (a : Bool) → in_place p.spot.shape ≡ a → (b : Bool) → sized p.spot.shape ≡ b → (f : Found) → stop_of p img off n ≡ f → Ended p img off n buf
+    some : 0 < n → (a : Bool) → in_place p.spot.shape ≡ a → (b : Bool) → sized p.spot.shape ≡ b → (f : Option ℕ) → stop_of p img off n ≡ f → Ended p img off n buf
     some l true a b k f s = judged _ (read-in-place p.geo p.spot img off n buf (λ z. omega arith) a)
     some l false a false k f s = judged _ (read-unsized p.geo p.spot img off n buf (λ z. omega arith) a k)
-    some l false a true k Nothing s = whole (inr (record { blocks = a; kind = k; all = s }))
-    some l false a true k (At j) s =
+    some l false a true k None s = whole (inr (record { blocks = a; kind = k; all = s }))
+    some l false a true k (Some j) s =
         short j s
         (read-blocks p.geo p.spot img off n buf (λ z. omega arith) a k n refl ∙ read_short p.geo p.spot.at p.spot.shape.size img off n buf j s)
 
@@ -165,7 +164,7 @@ read-past img i off buf p e l =
 -- the buffer as it was; or 97 in the work, at block j, and what stands before that block is read
 pub data Refused (img : List ℕ) (i off : ℕ) (buf left : List ℕ) (e : Refusal) : Type 0 where
   before : left ≡ buf → Refused img i off buf left e
-  at_block : (p : Place) (j : ℕ) → place_in img i ≡ got p → stop p.geo p.spot.at p.spot.shape.size img off (asked (length buf) p.spot.shape.size off) ≡ At j → e ≡ Damaged
+  at_block : (p : Place) (j : ℕ) → place_in img i ≡ got p → stop p.geo p.spot.at p.spot.shape.size img off (asked (length buf) p.spot.shape.size off) ≡ Some j → e ≡ Damaged
       → left ≡ put 0 (file_bytes p.geo p.spot.at p.spot.shape.size img off (j * p.geo.bsize - off)) buf → Refused img i off buf left e
 
 pub read-refused : (img : List ℕ) (i off : ℕ) (buf left : List ℕ) (e : Refusal) → inode_read img i off buf ≡ (left, refused e) → Refused img i off buf left e

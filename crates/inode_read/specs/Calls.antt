@@ -1,31 +1,21 @@
 -- 01, "Inodes and mapping": the public calls that read, with the order of refusals. Assumes nothing: these are definitions.
-use Rattle.std.specs.Prelude.{not, List, ℕ, ◌-◌, min, length, eqb, ltb}
+use Rattle.std.specs.Prelude.{not, List, ℕ, ◌-◌, min, length, eqb, ltb, Option, Some, None, Result, Ok, Err}
 use Rattle.refusal.specs.declared.Refusal.TheVariants.{Damaged, Invalid, TextInInode}
 use Rattle.store.specs.Act.{Out, got, refused}
 use Rattle.volume.specs.declared.Geometry.{Geometry}
 use Rattle.volume.specs.declared.FragNum.{FragNum}
 use Rattle.inode.specs.declared.Shape.{Shape}
-use Rattle.inode.specs.declared.Held.{Held}
-use Rattle.inode.specs.declared.Held.TheVariants as Held
 use Rattle.inode.specs.Size.{pick, held_at}
 use Rattle.inode.specs.Shape.{sized, in_place}
 use Rattle.mapping.specs.Zones.{zones_end}
 use Rattle.mapping.specs.Mapping.{per_list}
 use Rattle.inode_run.specs.declared.Spot.{Spot}
 use Rattle.inode_run.specs.declared.Run.{Run}
-use Rattle.inode_run.specs.declared.Run.TheVariants as Run
 use Rattle.inode_run.specs.Judge.{ask, and_then, reading}
 use Rattle.inode_run.specs.Find.{find_inode}
 use Rattle.inode_run.specs.Run.{run_at}
-use Rattle.inode_read.specs.declared.Known.{Known}
-use Rattle.inode_read.specs.declared.Known.TheVariants as Known
-use Rattle.inode_read.specs.declared.BlockSize.{BlockSize}
-use Rattle.inode_read.specs.declared.BlockSize.TheVariants as BlockSize
-use Rattle.inode_read.specs.declared.Resolved.{Resolved}
-use Rattle.inode_read.specs.declared.Resolved.TheVariants as Resolved
-use Rattle.inode_read.specs.declared.Read.{Read}
-use Rattle.inode_read.specs.declared.Read.TheVariants as Read
 use Rattle.inode_read.specs.Read.{read_at}
+use Rattle.refusal.specs.declared.Refusal.{Refusal}
 
 -- ---- "Order: 97 for an unsound volume, .. numbers, the inode (22), kind (5, ..)"
 
@@ -38,16 +28,16 @@ unfoldable pub place_in : List ℕ → ℕ → Out Place
 place_in img i = reading (λ geo. and_then (find_inode geo img i) (λ s. got (record { geo = geo; spot = s }))) img
 
 -- the code's answer
-abbrev pub known_of : Out Place → Known
-known_of (got p) = Known.At p.geo p.spot
-known_of (refused e) = Known.No e
+abbrev pub known_of : Out Place → Result (Geometry × Spot) Refusal
+known_of (got p) = Ok (p.geo, p.spot)
+known_of (refused e) = Err e
 
 -- ---- how many bytes a block holds
 
 -- "block index past the file's end" is 22
-abbrev pub held_out : Held → Out ℕ
-held_out (Held.Bytes n) = got n
-held_out Held.PastEnd = refused Invalid
+abbrev pub held_out : Option ℕ → Out ℕ
+held_out (Some n) = got n
+held_out None = refused Invalid
 
 -- 97 for a kind that has no size: "each place with no other number where the Rust would panic"
 unfoldable pub size_out : Geometry → Shape → ℕ → Out ℕ
@@ -56,9 +46,9 @@ size_out geo s i = ask (sized s) Damaged (held_out (held_at geo s.size i))
 unfoldable pub inode_get_block_size : List ℕ → ℕ → ℕ → Out ℕ
 inode_get_block_size img i idx = and_then (place_in img i) (λ p. size_out p.geo p.spot.shape idx)
 
-abbrev pub size_answer : Out ℕ → BlockSize
-size_answer (got n) = BlockSize.Bytes n
-size_answer (refused e) = BlockSize.No e
+abbrev pub size_answer : Out ℕ → Result ℕ Refusal
+size_answer (got n) = Ok n
+size_answer (refused e) = Err e
 
 -- ---- where a block lies
 
@@ -86,10 +76,10 @@ resolve_out geo s img i =
 unfoldable pub inode_resolve_block : List ℕ → ℕ → ℕ → Out Landing
 inode_resolve_block img i idx = and_then (place_in img i) (λ p. resolve_out p.geo p.spot img idx)
 
-abbrev pub resolved_answer : Out Landing → Resolved
-resolved_answer (got (address a)) = Resolved.At a
-resolved_answer (got hole) = Resolved.Hole
-resolved_answer (refused e) = Resolved.No e
+abbrev pub resolved_answer : Out Landing → Result (Option FragNum) Refusal
+resolved_answer (got (address a)) = Ok (Some a)
+resolved_answer (got hole) = Ok None
+resolved_answer (refused e) = Err e
 
 -- ---- reading
 
@@ -112,9 +102,9 @@ read_found img off buf (refused e) = (buf, refused e)
 unfoldable pub inode_read : List ℕ → ℕ → ℕ → List ℕ → List ℕ × Out ℕ
 inode_read img i off buf = read_found img off buf (place_in img i)
 
-abbrev pub read_of : Out ℕ → Read
-read_of (got n) = Read.Bytes n
-read_of (refused e) = Read.No e
+abbrev pub read_of : Out ℕ → Result ℕ Refusal
+read_of (got n) = Ok n
+read_of (refused e) = Err e
 
-abbrev pub read_answer : List ℕ × Out ℕ → List ℕ × Read
+abbrev pub read_answer : List ℕ × Out ℕ → List ℕ × Result ℕ Refusal
 read_answer p = (p.0, read_of p.1)

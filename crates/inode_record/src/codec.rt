@@ -1,11 +1,11 @@
 // data.rs, decoder.rs: the parts of an inode's record, read and stored.
-ghost use Rattle.std.specs.Prelude.{◌≡◌, ◌+◌, ◌*◌, ◌≤◌, length};
+ghost use Rattle.std.specs.Prelude.{◌≡◌, ◌+◌, ◌≤◌, length};
 ghost use Rattle.store.specs.Store.{apply};
 ghost use Rattle.inode.specs.Shape.{address_at};
 ghost use Rattle.inode.specs.Places.{extb_at};
 ghost use Rattle.inode_record.specs.Record.{listed, spare_at, times_of, written, owner_slots, size_slots, second_slots, nanosecond_slots, time_slots, flag_slots, extb_slots, direct_slots, indirect_slots, address_slots, last_slots};
 
-use field::Order;
+use field::{Number, Order};
 use inode::{Inode, Times};
 
 pub fn read_times(img: &[u8], o: Order, at: usize) -> Times
@@ -13,14 +13,14 @@ pub fn read_times(img: &[u8], o: Order, at: usize) -> Times
     ensures { result ≡ times_of o at img.now }
 {
     Times {
-        atime: field::get_u64(o, img, at + 32),
-        mtime: field::get_u64(o, img, at + 40),
-        ctime: field::get_u64(o, img, at + 48),
-        birthtime: field::get_u64(o, img, at + 56),
-        mtimensec: field::get_u32(o, img, at + 64),
-        atimensec: field::get_u32(o, img, at + 68),
-        ctimensec: field::get_u32(o, img, at + 72),
-        birthnsec: field::get_u32(o, img, at + 76),
+        atime: u64::get(o, img, at + 32),
+        mtime: u64::get(o, img, at + 40),
+        ctime: u64::get(o, img, at + 48),
+        birthtime: u64::get(o, img, at + 56),
+        mtimensec: u32::get(o, img, at + 64),
+        atimensec: u32::get(o, img, at + 68),
+        ctimensec: u32::get(o, img, at + 72),
+        birthnsec: u32::get(o, img, at + 76),
     }
 }
 
@@ -70,8 +70,8 @@ pub fn all_spare(img: &[u8], o: Order, at: usize) -> [u32; 2]
     ensures { result ≡ listed (λ j. spare_at o at j img.now) 0 2 }
 {
     [
-        field::get_u32(o, img, at + 248 + 0),
-        field::get_u32(o, img, at + 248 + 4),
+        u32::get(o, img, at + 248 + 0),
+        u32::get(o, img, at + 248 + 4),
     ]
 }
 
@@ -79,39 +79,39 @@ pub fn write_owner(img: &mut [u8], o: Order, at: usize, ino: Inode)
     requires { at + 256 ≤ length img.old }
     ensures { img.new ≡ apply (written o at (owner_slots ino)) img.old }
 {
-    field::put_u16(o, img, at + 0, ino.mode);
-    field::put_u16(o, img, at + 2, ino.nlink);
-    field::put_u32(o, img, at + 4, ino.uid);
-    field::put_u32(o, img, at + 8, ino.gid);
-    field::put_u32(o, img, at + 12, ino.blksize);
+    ino.mode.put(o, img, at + 0);
+    ino.nlink.put(o, img, at + 2);
+    ino.uid.put(o, img, at + 4);
+    ino.gid.put(o, img, at + 8);
+    ino.blksize.put(o, img, at + 12);
 }
 
 pub fn write_size(img: &mut [u8], o: Order, at: usize, ino: Inode)
     requires { at + 256 ≤ length img.old }
     ensures { img.new ≡ apply (written o at (size_slots ino)) img.old }
 {
-    field::put_u64(o, img, at + 16, ino.size);
-    field::put_u64(o, img, at + 24, ino.blocks);
+    ino.size.put(o, img, at + 16);
+    ino.blocks.put(o, img, at + 24);
 }
 
 pub fn write_seconds(img: &mut [u8], o: Order, at: usize, t: Times)
     requires { at + 256 ≤ length img.old }
     ensures { img.new ≡ apply (written o at (second_slots t)) img.old }
 {
-    field::put_u64(o, img, at + 32, t.atime);
-    field::put_u64(o, img, at + 40, t.mtime);
-    field::put_u64(o, img, at + 48, t.ctime);
-    field::put_u64(o, img, at + 56, t.birthtime);
+    t.atime.put(o, img, at + 32);
+    t.mtime.put(o, img, at + 40);
+    t.ctime.put(o, img, at + 48);
+    t.birthtime.put(o, img, at + 56);
 }
 
 pub fn write_nanoseconds(img: &mut [u8], o: Order, at: usize, t: Times)
     requires { at + 256 ≤ length img.old }
     ensures { img.new ≡ apply (written o at (nanosecond_slots t)) img.old }
 {
-    field::put_u32(o, img, at + 64, t.mtimensec);
-    field::put_u32(o, img, at + 68, t.atimensec);
-    field::put_u32(o, img, at + 72, t.ctimensec);
-    field::put_u32(o, img, at + 76, t.birthnsec);
+    t.mtimensec.put(o, img, at + 64);
+    t.atimensec.put(o, img, at + 68);
+    t.ctimensec.put(o, img, at + 72);
+    t.birthnsec.put(o, img, at + 76);
 }
 
 pub fn write_times(img: &mut [u8], o: Order, at: usize, t: Times)
@@ -126,10 +126,10 @@ pub fn write_flags(img: &mut [u8], o: Order, at: usize, ino: Inode)
     requires { at + 256 ≤ length img.old }
     ensures { img.new ≡ apply (written o at (flag_slots ino)) img.old }
 {
-    field::put_u32(o, img, at + 80, ino.generation);
-    field::put_u32(o, img, at + 84, ino.kernflags);
-    field::put_u32(o, img, at + 88, ino.flags);
-    field::put_u32(o, img, at + 92, ino.extsize);
+    ino.generation.put(o, img, at + 80);
+    ino.kernflags.put(o, img, at + 84);
+    ino.flags.put(o, img, at + 88);
+    ino.extsize.put(o, img, at + 92);
 }
 
 pub fn write_extb(img: &mut [u8], o: Order, at: usize, ino: Inode)
@@ -137,18 +137,16 @@ pub fn write_extb(img: &mut [u8], o: Order, at: usize, ino: Inode)
     ensures { img.new ≡ apply (written o at (extb_slots ino)) img.old }
 {
     let extb = ino.extb;
-    field::put_u64(o, img, at + 96, extb[0]);
-    field::put_u64(o, img, at + 104, extb[1]);
+    extb[0].put(o, img, at + 96);
+    extb[1].put(o, img, at + 104);
 }
 
 pub fn write_direct(img: &mut [u8], o: Order, at: usize, list: [u64; 12])
     requires { at + 256 ≤ length img.old }
     ensures { img.new ≡ apply (written o at (direct_slots list)) img.old }
 {
-    let mut k = 0;
-    while k < 12 {
-        field::put_u64(o, img, at + (112 + k * 8), list[k]);
-        k += 1;
+    for (k, a) in list.iter().enumerate() {
+        (*a).put(o, img, at + (112 + k * 8));
     }
 }
 
@@ -157,9 +155,9 @@ pub fn write_indirect(img: &mut [u8], o: Order, at: usize, ino: Inode)
     ensures { img.new ≡ apply (written o at (indirect_slots ino)) img.old }
 {
     let indirect = ino.indirect;
-    field::put_u64(o, img, at + 208, indirect[0]);
-    field::put_u64(o, img, at + 216, indirect[1]);
-    field::put_u64(o, img, at + 224, indirect[2]);
+    indirect[0].put(o, img, at + 208);
+    indirect[1].put(o, img, at + 216);
+    indirect[2].put(o, img, at + 224);
 }
 
 pub fn write_addresses(img: &mut [u8], o: Order, at: usize, ino: Inode)
@@ -176,10 +174,10 @@ pub fn write_last(img: &mut [u8], o: Order, at: usize, ino: Inode)
     requires { at + 256 ≤ length img.old }
     ensures { img.new ≡ apply (written o at (last_slots ino)) img.old }
 {
-    field::put_u64(o, img, at + 232, ino.modrev);
-    field::put_u32(o, img, at + 240, ino.ignored);
-    field::put_u32(o, img, at + 244, ino.ckhash);
+    ino.modrev.put(o, img, at + 232);
+    ino.ignored.put(o, img, at + 240);
+    ino.ckhash.put(o, img, at + 244);
     let spare = ino.spare;
-    field::put_u32(o, img, at + 248, spare[0]);
-    field::put_u32(o, img, at + 252, spare[1]);
+    spare[0].put(o, img, at + 248);
+    spare[1].put(o, img, at + 252);
 }

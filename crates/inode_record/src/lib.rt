@@ -5,7 +5,7 @@ ghost use Rattle.std.specs.Prelude.{◌≡◌, ◌+◌, ◌≤◌, length};
 ghost use Rattle.store.specs.Store.{apply};
 ghost use Rattle.inode_record.specs.Record.{inode_of, inode_store};
 
-use field::Order;
+use field::{Number, Order};
 use inode::Inode;
 
 pub mod codec;
@@ -20,24 +20,24 @@ pub fn read_inode(img: &[u8], o: Order, at: usize) -> Inode
     let indirect = codec::all_indirect(img, o, at);
     let spare = codec::all_spare(img, o, at);
     Inode {
-        mode: field::get_u16(o, img, at + 0),
-        nlink: field::get_u16(o, img, at + 2),
-        uid: field::get_u32(o, img, at + 4),
-        gid: field::get_u32(o, img, at + 8),
-        blksize: field::get_u32(o, img, at + 12),
-        size: field::get_u64(o, img, at + 16),
-        blocks: field::get_u64(o, img, at + 24),
+        mode: u16::get(o, img, at + 0),
+        nlink: u16::get(o, img, at + 2),
+        uid: u32::get(o, img, at + 4),
+        gid: u32::get(o, img, at + 8),
+        blksize: u32::get(o, img, at + 12),
+        size: u64::get(o, img, at + 16),
+        blocks: u64::get(o, img, at + 24),
         times: times,
-        generation: field::get_u32(o, img, at + 80),
-        kernflags: field::get_u32(o, img, at + 84),
-        flags: field::get_u32(o, img, at + 88),
-        extsize: field::get_u32(o, img, at + 92),
+        generation: u32::get(o, img, at + 80),
+        kernflags: u32::get(o, img, at + 84),
+        flags: u32::get(o, img, at + 88),
+        extsize: u32::get(o, img, at + 92),
         extb: extb,
         direct: direct,
         indirect: indirect,
-        modrev: field::get_u64(o, img, at + 232),
-        ignored: field::get_u32(o, img, at + 240),
-        ckhash: field::get_u32(o, img, at + 244),
+        modrev: u64::get(o, img, at + 232),
+        ignored: u32::get(o, img, at + 240),
+        ckhash: u32::get(o, img, at + 244),
         spare: spare,
     }
 }

@@ -1,10 +1,11 @@
 -- Laws of finding an inode by its number. Assumes nothing.
-use mathlib.Core.Path.{◌≡◌, refl, sym, ap, ◌∙◌}
-use mathlib.Core.Bool.{Bool, true, false, not, ◌&&◌}
+use Rattle.std.specs.Prelude.{Ok}
+use mathlib.Core.Path.{◌≡◌, refl, ap, ◌∙◌}
+use mathlib.Core.Bool.{Bool, true, false}
 use mathlib.Core.List.{List}
-use Prim.Native.Nat.{ℕ, ◌+◌, ◌*◌, ◌<◌, ◌≤◌}
+use Prim.Native.Nat.{ℕ, ◌*◌, ◌<◌}
 use native.Mathlib.Omega.{arith}
-use lib.Dec.{eqb, ltb}
+use lib.Dec.{ltb}
 use borrow.Author.Tests.{ltb-true, eq-eqb, ne_eqb}
 use Rattle.bits.proofs.UptoLaws.{both}
 use Rattle.refusal.specs.declared.Refusal.TheVariants.{Invalid}
@@ -16,7 +17,6 @@ use Rattle.inode.specs.Shape.{shape_of, type_of}
 use Rattle.inode_run.specs.declared.Spot.{Spot}
 use Rattle.frame.specs.Frame.{Frame, InodeIs}
 use Rattle.frame.proofs.Places.{inode-is}
-use Rattle.inode_run.specs.declared.Found.TheVariants as Found
 use Rattle.inode_run.specs.Judge.{ask}
 use Rattle.inode_run.specs.Find.{number_ok, typed, spot_of, find_inode, found_of}
 
@@ -47,7 +47,7 @@ module _ (geo : Geometry) (img : List ℕ) (i : ℕ) where
 
 -- ---- what a good answer says
 
-pub found-got : (o : Out Spot) (s : Spot) → Found.At s ≡ found_of o → o ≡ got s
+pub found-got : (o : Out Spot) (s : Spot) → Ok s ≡ found_of o → o ≡ got s
 found-got (got t) s e = let q : t ≡ s = cc in ap got q
 found-got (refused r) s e = absurd (let z : ◌≡◌ {A = ℕ} 0 1 = cc in let y : ⊥ = omega arith in y)
 

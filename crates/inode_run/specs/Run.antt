@@ -1,24 +1,20 @@
 -- 01, "Inodes and mapping": the run of fragments that a block of a file is, and the file's bytes by it. Assumes nothing: these are definitions.
-use Rattle.std.specs.Prelude.{Bool, true, false, not, List, [], ◌∷◌, ℕ, zero, suc, ◌+◌, ◌*◌, ◌/◌, ◌%◌, get_or}
+use Rattle.std.specs.Prelude.{Bool, true, false, List, [], ◌∷◌, ℕ, zero, suc, ◌+◌, ◌*◌, ◌/◌, ◌%◌, get_or, Option, Some, None}
 use Rattle.volume.specs.declared.Geometry.{Geometry}
-use Rattle.volume.specs.declared.FragNum.{FragNum}
 use Rattle.frame.specs.Frame.{run_okb}
-use Rattle.inode.specs.declared.Held.{Held}
-use Rattle.inode.specs.declared.Held.TheVariants as Held
 use Rattle.inode.specs.Size.{pick, held_at}
 use Rattle.mapping.specs.declared.Mapped.{Mapped}
-use Rattle.mapping.specs.declared.Mapped.TheVariants as Mapped
 use Rattle.mapping.specs.Mapping.{mapped}
 use Rattle.inode_run.specs.declared.Run.{Run}
 use Rattle.inode_run.specs.declared.Run.TheVariants.{At, Hole, Past, Bad}
 
 -- "A run that touches a reserved fragment or is not within one group's ndblk is 97"
-abbrev pub run_for : Geometry → List ℕ → Held → Mapped → Run
-run_for geo img Held.PastEnd m = Past
-run_for geo img (Held.Bytes n) (Mapped.At a) = pick (run_okb geo img a.0 (n / geo.fsize)) (At a n) Bad
-run_for geo img (Held.Bytes n) Mapped.Hole = Hole n
-run_for geo img (Held.Bytes n) Mapped.Bad = Bad
-run_for geo img (Held.Bytes n) Mapped.Past = Bad
+abbrev pub run_for : Geometry → List ℕ → Option ℕ → Mapped → Run
+run_for geo img None m = Past
+run_for geo img (Some n) (Mapped.At a) = pick (run_okb geo img a.0 (n / geo.fsize)) (At a n) Bad
+run_for geo img (Some n) Mapped.Hole = Hole n
+run_for geo img (Some n) Mapped.Bad = Bad
+run_for geo img (Some n) Mapped.Past = Bad
 
 -- the block at index i of a file of that size, whose record is at `at`: the run and how many bytes it holds
 unfoldable pub run_at : Geometry → ℕ → ℕ → List ℕ → ℕ → Run

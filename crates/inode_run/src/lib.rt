@@ -1,13 +1,12 @@
 // inode.rs (read_inode, inode_find_block): the inode that a number names, and the run of fragments that a block of it is.
 #![tactic(auto)]
 
-ghost use Rattle.std.specs.Prelude.{◌≡◌, ◌+◌, ◌*◌, ◌≤◌, ◌<◌, length};
-ghost use Rattle.frame.specs.Frame.{Frame, InodeIs};
-ghost use Rattle.inode_run.specs.Find.{number_ok, typed, find_inode, found_of};
+ghost use Rattle.std.specs.Prelude.{◌≡◌, ◌+◌, ◌≤◌, length, Some};
+ghost use Rattle.frame.specs.Frame.{Frame};
+ghost use Rattle.inode_run.specs.Find.{number_ok, find_inode, found_of};
 ghost use Rattle.inode_run.specs.Run.{run_for, run_at};
-ghost use Rattle.inode.specs.declared.Held.TheVariants.{Bytes};
 
-use inode::{Held, Shape};
+use inode::Shape;
 use mapping::Mapped;
 use refusal::Refusal;
 use volume::{BlockIdx, FragNum, Geometry, InodeNum};
@@ -17,13 +16,6 @@ use volume::{BlockIdx, FragNum, Geometry, InodeNum};
 pub struct Spot {
     pub at: usize,
     pub shape: Shape,
-}
-
-// The inode that a number names, or a refusal.
-#[derive(Clone, Copy)]
-pub enum Found {
-    At(Spot),
-    No(Refusal),
 }
 
 // A block of a file: the address of its run, or a hole, and how many bytes it holds.
@@ -44,26 +36,26 @@ pub fn number_ok(geo: Geometry, inr: InodeNum) -> bool
 }
 
 // read_inode: the record of an inode that has a type.
-pub fn find_inode(img: &[u8], geo: Geometry, inr: InodeNum) -> Found
+pub fn find_inode(img: &[u8], geo: Geometry, inr: InodeNum) -> Result<Spot, Refusal>
     requires { Frame geo img.now }
     ensures { result ≡ found_of (find_inode geo img.now inr.0) }
 {
     if !number_ok(geo, inr) {
-        return Found::No(Refusal::Invalid);
+        return Err(Refusal::Invalid);
     }
     let at = frame::inode_spot(img, geo, inr);
     let o = geo.order;
     let s = inode::read_shape(img, o, at);
     if inode::type_of(s.mode) == 0 {
-        return Found::No(Refusal::Invalid);
+        return Err(Refusal::Invalid);
     }
-    Found::At(Spot { at: at, shape: s })
+    Ok(Spot { at: at, shape: s })
 }
 
 // The run of n bytes that the mapping leads to.
 fn run_held(img: &[u8], geo: Geometry, m: Mapped, n: u64) -> Run
     requires { Frame geo img.now }
-    ensures { result ≡ run_for geo img.now (Bytes n) m }
+    ensures { result ≡ run_for geo img.now (Some n) m }
 {
     match m {
         Mapped::At(a) => {
@@ -85,7 +77,7 @@ pub fn run_of(img: &[u8], geo: Geometry, at: usize, size: u64, i: BlockIdx) -> R
     ensures { result ≡ run_at geo at size img.now i.0 }
 {
     match inode::get_block_size(geo, size, i) {
-        Held::Bytes(n) => run_held(img, geo, mapping::resolve_block(img, geo, at, i), n),
-        Held::PastEnd => Run::Past,
+        Some(n) => run_held(img, geo, mapping::resolve_block(img, geo, at, i), n),
+        None => Run::Past,
     }
 }

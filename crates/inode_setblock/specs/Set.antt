@@ -1,5 +1,5 @@
 -- 01, "Inodes and mapping": a block's address set in its inode, or in the list that holds it, with the lists given out on the way. Assumes nothing: these are definitions.
-use Rattle.std.specs.Prelude.{List, [], ◌∷◌, ℕ, zero, suc, ◌+◌, ◌*◌, ◌/◌, ◌%◌, ◌^◌, ◌≤◌, ◌<◌, eqb}
+use Rattle.std.specs.Prelude.{List, [], ◌∷◌, ℕ, zero, suc, ◌+◌, ◌*◌, ◌/◌, ◌%◌, ◌^◌, ◌≤◌, ◌<◌, eqb, Result, Ok, Err}
 use Rattle.field.specs.Field.{part}
 use Rattle.refusal.specs.declared.Refusal.TheVariants.{Damaged}
 use Rattle.store.specs.Store.{Write, Store, number}
@@ -14,8 +14,7 @@ use Rattle.mapping.specs.Zones.{place_of}
 use Rattle.mapping.specs.Mapping.{entry_width, per_list, entry_at}
 use Rattle.balloc_give.specs.Give.{give_zeroed}
 use Rattle.ialloc_tree.specs.Tree.{on_list}
-use Rattle.inode_setblock.specs.declared.Written.{Written}
-use Rattle.inode_setblock.specs.declared.Written.TheVariants as Written
+use Rattle.refusal.specs.declared.Refusal.{Refusal}
 
 -- an inode's record at `at` lies in a group's table
 pub record InTable (geo : Geometry) (at : ℕ) : Type 0 where
@@ -75,6 +74,6 @@ unfoldable pub set_block : Geometry → ℕ → ℕ → ℕ → ℕ → Act (Uni
 set_block geo at i a held = set_at geo at a held (place_of (per_list geo) i)
 
 -- the code's answer
-abbrev pub written_out : Written → Out (Unit {0})
-written_out Written.Done = got (tt {0})
-written_out (Written.No e) = refused e
+abbrev pub written_out : Result (Unit {0}) Refusal → Out (Unit {0})
+written_out (Ok u) = got (tt {0})
+written_out (Err e) = refused e

@@ -10,17 +10,10 @@ ghost use Rattle.mapping.specs.Mapping.{per_list, list_ok};
 ghost use Rattle.balloc_give.specs.Give.{zeroed_out};
 ghost use Rattle.inode_setblock.specs.Set.{entry_write, list_store, record_store, next_list, set_in, set_root, set_under, set_block, written_out};
 
-use balloc_give::Zeroed;
+use field::Number;
 use mapping::Place;
 use refusal::Refusal;
 use volume::{BlockIdx, FragNum, Geometry};
-
-// The work is done, or a refusal.
-#[derive(Clone, Copy)]
-pub enum Written {
-    Done,
-    No(Refusal),
-}
 
 // An address of the list at r.
 fn put_entry(img: &mut [u8], geo: Geometry, r: FragNum, slot: u64, a: FragNum)
@@ -29,7 +22,7 @@ fn put_entry(img: &mut [u8], geo: Geometry, r: FragNum, slot: u64, a: FragNum)
 {
     let o = geo.order;
     let at = volume::address_at(geo, r) + slot as usize * 8;
-    field::put_u64(o, img, at, a.0);
+    a.0.put(o, img, at);
 }
 
 // The list at r, as it stands, kept beside the image.
@@ -48,7 +41,7 @@ fn put_list(img: &mut [u8], geo: Geometry, r: FragNum, list: &[u8; 65536], slot:
     let o = geo.order;
     let at = volume::address_at(geo, r);
     field::copy_bytes(img, at, list, 0, geo.bsize as usize);
-    field::put_u64(o, img, at + slot as usize * 8, a.0);
+    a.0.put(o, img, at + slot as usize * 8);
 }
 
 // One of the record's 15 addresses, and how much the data hold.
@@ -62,23 +55,19 @@ fn put_record(img: &mut [u8], geo: Geometry, at: usize, root: u64, a: FragNum, h
 }
 
 // The list that an address of the list at r leads to; where there is none, one is given out.
-fn next_list(img: &mut [u8], geo: Geometry, r: FragNum, slot: u64) -> Zeroed
+fn next_list(img: &mut [u8], geo: Geometry, r: FragNum, slot: u64) -> Result<FragNum, Refusal>
     requires { Frame geo img.old × (list_ok geo img.old r.0 ≡ true) × (slot < per_list geo) }
     ensures { (img.new, zeroed_out result) ≡ leaves (next_list geo r.0 slot) img.old }
 {
     let next = mapping::entry(img, geo, r, slot);
     if next.0 != 0 {
-        return Zeroed::Block(next);
+        return Ok(next);
     }
     let mut list = [0u8; 65536];
     keep_list(&mut list, img, geo, r);
-    match balloc_give::blk_alloc_full_zeroed(img, geo) {
-        Zeroed::Block(e) => {
-            put_list(img, geo, r, &list, slot, e);
-            Zeroed::Block(e)
-        }
-        Zeroed::No(e) => Zeroed::No(e),
-    }
+    let e = balloc_give::blk_alloc_full_zeroed(img, geo)?;
+    put_list(img, geo, r, &list, slot, e);
+    Ok(e)
 }
 
 // Down from the list at r, which is `below` lists above the one that holds the address.
@@ -89,22 +78,20 @@ fn set_in(
     r: FragNum,
     rest: BlockIdx,
     a: FragNum,
-) -> Written
+) -> Result<(), Refusal>
     requires { Frame geo img.old × (below ≤ 2) × (rest.0 < per_list geo ^ (below + 1)) }
     ensures { (img.new, written_out result) ≡ leaves (set_in geo below r.0 rest.0 a.0) img.old }
 {
     if !frame::run_ok(img, geo, r, geo.frag as u64) {
-        return Written::No(Refusal::Damaged);
+        return Err(Refusal::Damaged);
     }
     if below == 0 {
         put_entry(img, geo, r, rest.0, a);
-        return Written::Done;
+        return Ok(());
     }
     let each = mapping::span_of(geo, below);
-    match next_list(img, geo, r, rest.0 / each) {
-        Zeroed::Block(e) => set_in(img, geo, below - 1, e, BlockIdx(rest.0 % each), a),
-        Zeroed::No(e) => Written::No(e),
-    }
+    let e = next_list(img, geo, r, rest.0 / each)?;
+    set_in(img, geo, below - 1, e, BlockIdx(rest.0 % each), a)
 }
 
 // Under a root that is not yet there: it is given out first, and stored last.
@@ -117,20 +104,14 @@ fn set_root(
     rest: BlockIdx,
     a: FragNum,
     held: u64,
-) -> Written
+) -> Result<(), Refusal>
     requires { Frame geo img.old × (at + 256 ≤ length img.old) × (root < 15) × (below ≤ 2) × (rest.0 < per_list geo ^ (below + 1)) }
     ensures { (img.new, written_out result) ≡ leaves (set_root geo at root below rest.0 a.0 held) img.old }
 {
-    match balloc_give::blk_alloc_full_zeroed(img, geo) {
-        Zeroed::Block(r) => match set_in(img, geo, below, r, rest, a) {
-            Written::Done => {
-                put_record(img, geo, at, root, r, held);
-                Written::Done
-            }
-            Written::No(e) => Written::No(e),
-        },
-        Zeroed::No(e) => Written::No(e),
-    }
+    let r = balloc_give::blk_alloc_full_zeroed(img, geo)?;
+    set_in(img, geo, below, r, rest, a)?;
+    put_record(img, geo, at, root, r, held);
+    Ok(())
 }
 
 // Under one of the record's addresses, `level` lists above the block.
@@ -143,13 +124,13 @@ fn set_under(
     rest: BlockIdx,
     a: FragNum,
     held: u64,
-) -> Written
+) -> Result<(), Refusal>
     requires { Frame geo img.old × (at + 256 ≤ length img.old) × (root < 15) × (level ≤ 3) × (rest.0 < per_list geo ^ level) }
     ensures { (img.new, written_out result) ≡ leaves (set_under geo at root level rest.0 a.0 held) img.old }
 {
     if level == 0 {
         put_record(img, geo, at, root, a, held);
-        return Written::Done;
+        return Ok(());
     }
     let o = geo.order;
     let r = inode::read_address(img, o, at, root);
@@ -167,12 +148,12 @@ pub fn set_block(
     i: BlockIdx,
     a: FragNum,
     held: u64,
-) -> Written
+) -> Result<(), Refusal>
     requires { Frame geo img.old × (at + 256 ≤ length img.old) }
     ensures { (img.new, written_out result) ≡ leaves (set_block geo at i.0 a.0 held) img.old }
 {
     match mapping::place_of(mapping::per_list(geo), i) {
         Place::Under { root, level, rest } => set_under(img, geo, at, root, level, rest, a, held),
-        Place::Past => Written::No(Refusal::Damaged),
+        Place::Past => Err(Refusal::Damaged),
     }
 }

@@ -10,12 +10,12 @@ ghost use Rattle.mapping.specs.Mapping.{per_list, list_ok};
 ghost use Rattle.ialloc_tree.specs.Tree.{freed_out};
 ghost use Rattle.inode_shrink.specs.Shrink.{free_rest, rest_write, shrink_list, free_lists, entry_in, Copied, shrink_from, shrink_lists};
 
-use ialloc_tree::Freed;
+use field::Number;
 use inode::Shape;
 use refusal::Refusal;
 use volume::{BlockIdx, FragNum, Geometry};
 
-// The addresses of the list at a from place u on, each block at the file's own index.
+// The addresses of the list at a from place u on, each block at the file's own index: the units of 512 bytes that stay.
 fn free_rest(
     img: &mut [u8],
     geo: Geometry,
@@ -24,26 +24,17 @@ fn free_rest(
     base: u64,
     u: u64,
     held: u64,
-) -> Freed
+) -> Result<u64, Refusal>
     requires { Frame geo img.old × (list_ok geo img.old a.0 ≡ true) × (base ≤ 1099511627776) }
     ensures { (img.new, freed_out result) ≡ leaves (free_rest geo s a.0 base u held) img.old }
 {
     let per = mapping::per_list(geo);
     let mut left = held;
-    let mut i = u;
-    while i < per {
+    for i in u..per {
         let next = mapping::entry(img, geo, a, i);
-        match ialloc_tree::free_address(img, geo, s, 0, next, BlockIdx(base + i), left) {
-            Freed::Held(n) => {
-                left = n;
-            }
-            Freed::No(e) => {
-                return Freed::No(e);
-            }
-        }
-        i += 1;
+        left = ialloc_tree::free_address(img, geo, s, 0, next, BlockIdx(base + i), left)?;
     }
-    Freed::Held(left)
+    Ok(left)
 }
 
 // The places of the list at a from u on made 0.
@@ -68,23 +59,19 @@ pub fn shrink_list(
     base: u64,
     u: u64,
     held: u64,
-) -> Freed
+) -> Result<u64, Refusal>
     requires { Frame geo img.old × (base ≤ 1099511627776) × (u ≤ per_list geo) }
     ensures { (img.new, freed_out result) ≡ leaves (shrink_list geo s a.0 base u held) img.old }
 {
     if a.0 == 0 {
-        return Freed::Held(held);
+        return Ok(held);
     }
     if !frame::run_ok(img, geo, a, geo.frag as u64) {
-        return Freed::No(Refusal::Damaged);
+        return Err(Refusal::Damaged);
     }
-    match free_rest(img, geo, s, a, base, u, held) {
-        Freed::Held(n) => {
-            zero_rest(img, geo, a, u);
-            Freed::Held(n)
-        }
-        Freed::No(e) => Freed::No(e),
-    }
+    let n = free_rest(img, geo, s, a, base, u, held)?;
+    zero_rest(img, geo, a, u);
+    Ok(n)
 }
 
 // An address of a list that is at hand.
@@ -93,30 +80,28 @@ fn entry_in(geo: Geometry, root: &[u8], i: u64) -> FragNum
     ensures { result.0 ≡ entry_in geo root.now i }
 {
     let o = geo.order;
-    FragNum(field::get_u64(o, root, i as usize * 8))
+    FragNum(u64::get(o, root, i as usize * 8))
 }
 
 // The lists from place u on of a root that is at hand.
-fn free_lists(img: &mut [u8], geo: Geometry, s: Shape, root: &[u8], u: u64, held: u64) -> Freed
+fn free_lists(
+    img: &mut [u8],
+    geo: Geometry,
+    s: Shape,
+    root: &[u8],
+    u: u64,
+    held: u64,
+) -> Result<u64, Refusal>
     requires { Frame geo img.old × (geo.bsize ≤ length root.now) }
     ensures { (img.new, freed_out result) ≡ leaves (free_lists geo s (entry_in geo root.now) u held) img.old }
 {
     let per = mapping::per_list(geo);
     let mut left = held;
-    let mut i = u;
-    while i < per {
+    for i in u..per {
         let next = entry_in(geo, root, i);
-        match ialloc_tree::free_address(img, geo, s, 1, next, BlockIdx(i), left) {
-            Freed::Held(n) => {
-                left = n;
-            }
-            Freed::No(e) => {
-                return Freed::No(e);
-            }
-        }
-        i += 1;
+        left = ialloc_tree::free_address(img, geo, s, 1, next, BlockIdx(i), left)?;
     }
-    Freed::Held(left)
+    Ok(left)
 }
 
 // The root stored as it is at hand, its places from u on made 0.
@@ -141,20 +126,14 @@ fn shrink_from(
     low: u64,
     held: u64,
     root: &[u8; 65536],
-) -> Freed
+) -> Result<u64, Refusal>
     requires { Frame geo img.old × (list_ok geo img.old a.0 ≡ true) × (first ≤ 1099511627776) × (high < per_list geo) × (low ≤ per_list geo) × Copied geo img.old a.0 root.now }
     ensures { (img.new, freed_out result) ≡ leaves (shrink_from geo s a.0 first high low held img.old) img.old }
 {
-    match shrink_list(img, geo, s, entry_in(geo, root, high), first, low, held) {
-        Freed::Held(n) => match free_lists(img, geo, s, root, high + 1, n) {
-            Freed::Held(m) => {
-                put_root(img, geo, a, root, high + 1);
-                Freed::Held(m)
-            }
-            Freed::No(e) => Freed::No(e),
-        },
-        Freed::No(e) => Freed::No(e),
-    }
+    let n = shrink_list(img, geo, s, entry_in(geo, root, high), first, low, held)?;
+    let m = free_lists(img, geo, s, root, high + 1, n)?;
+    put_root(img, geo, a, root, high + 1);
+    Ok(m)
 }
 
 // The list at a, copied.
@@ -174,15 +153,15 @@ pub fn shrink_lists(
     base: u64,
     u: u64,
     held: u64,
-) -> Freed
+) -> Result<u64, Refusal>
     requires { Frame geo img.old × (base ≤ 549755813888) × (u < per_list geo * per_list geo) }
     ensures { (img.new, freed_out result) ≡ leaves (shrink_lists geo s a.0 base u held) img.old }
 {
     if a.0 == 0 {
-        return Freed::Held(held);
+        return Ok(held);
     }
     if !frame::run_ok(img, geo, a, geo.frag as u64) {
-        return Freed::No(Refusal::Damaged);
+        return Err(Refusal::Damaged);
     }
     let per = mapping::per_list(geo);
     let high = u / per;

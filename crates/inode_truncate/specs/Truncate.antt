@@ -1,5 +1,5 @@
 -- 01, "Inodes and mapping": a file's blocks past its new end given back, zone by zone, and its record. Assumes nothing: these are definitions.
-use Rattle.std.specs.Prelude.{Bool, true, false, List, [], ◌∷◌, ◌++◌, ℕ, zero, suc, ◌+◌, ◌-◌, ◌*◌, ◌/◌, ◌%◌, ◌≡◌, ◌≤◌, length, eqb, ltb}
+use Rattle.std.specs.Prelude.{Bool, true, false, List, [], ◌∷◌, ◌++◌, ℕ, zero, suc, ◌+◌, ◌-◌, ◌*◌, ◌/◌, ◌%◌, ◌≡◌, ◌≤◌, length, eqb, ltb, Result, Ok, Err}
 use Rattle.field.specs.Field.{num, part, zeros}
 use Rattle.field.specs.declared.Order.{Order}
 use Rattle.refusal.specs.declared.Refusal.TheVariants.{Damaged}
@@ -15,8 +15,7 @@ use Rattle.mapping.specs.Zones.{zone_start}
 use Rattle.mapping.specs.Mapping.{entry_width, per_list, entry_at}
 use Rattle.ialloc_tree.specs.Tree.{free_tree}
 use Rattle.inode_shrink.specs.Shrink.{shrink_list, shrink_lists}
-use Rattle.inode_truncate.specs.declared.Truncated.{Truncated}
-use Rattle.inode_truncate.specs.declared.Truncated.TheVariants as Truncated
+use Rattle.refusal.specs.declared.Refusal.{Refusal}
 
 -- how many blocks a file of that size keeps: its whole blocks, and the tail
 unfoldable pub keep_of : Geometry → ℕ → ℕ
@@ -71,6 +70,6 @@ truncate_work geo at s new =
     (store (size_write geo.order at new ∷ []))
 
 -- the code's answer
-abbrev pub truncated_out : Truncated → Out (Unit {0})
-truncated_out Truncated.Done = got (tt {0})
-truncated_out (Truncated.No e) = refused e
+abbrev pub truncated_out : Result (Unit {0}) Refusal → Out (Unit {0})
+truncated_out (Ok u) = got (tt {0})
+truncated_out (Err e) = refused e

@@ -11,17 +11,9 @@ ghost use Rattle.mapping.specs.Mapping.{per_list};
 ghost use Rattle.ialloc_tree.specs.Tree.{freed_out};
 ghost use Rattle.inode_truncate.specs.Truncate.{keep_of, shrink_direct, shrink_low, shrink_mid, shrink, first_gone, shrunk_store, truncate_work, truncated_out};
 
-use ialloc_tree::Freed;
 use inode::Shape;
 use refusal::Refusal;
 use volume::{BlockIdx, Geometry};
-
-// What truncating answers.
-#[derive(Clone, Copy)]
-pub enum Truncated {
-    Done,
-    No(Refusal),
-}
 
 // How many blocks a file of that size keeps.
 pub fn keep_of(geo: Geometry, size: u64) -> u64
@@ -32,44 +24,54 @@ pub fn keep_of(geo: Geometry, size: u64) -> u64
     if 0 < e.frags { e.blocks + 1 } else { e.blocks }
 }
 
-// The direct addresses of the record at `at`, from keep on.
-fn shrink_direct(img: &mut [u8], geo: Geometry, at: usize, s: Shape, keep: u64, held: u64) -> Freed
+// The direct addresses of the record at `at`, from keep on: the units of 512 bytes that stay.
+fn shrink_direct(
+    img: &mut [u8],
+    geo: Geometry,
+    at: usize,
+    s: Shape,
+    keep: u64,
+    held: u64,
+) -> Result<u64, Refusal>
     requires { Frame geo img.old × (at + 256 ≤ length img.old) }
     ensures { (img.new, freed_out result) ≡ leaves (shrink_direct geo at s keep held) img.old }
 {
     let o = geo.order;
     let mut left = held;
-    let mut i = keep;
-    while i < 12 {
+    for i in keep..12 {
         let a = inode::read_address(img, o, at, i);
-        match ialloc_tree::free_address(img, geo, s, 0, a, BlockIdx(i), left) {
-            Freed::Held(n) => {
-                left = n;
-            }
-            Freed::No(e) => {
-                return Freed::No(e);
-            }
-        }
-        i += 1;
+        left = ialloc_tree::free_address(img, geo, s, 0, a, BlockIdx(i), left)?;
     }
-    Freed::Held(left)
+    Ok(left)
 }
 
 // The list of the first zone freed whole, and then direct addresses.
-fn shrink_small(img: &mut [u8], geo: Geometry, at: usize, s: Shape, keep: u64, held: u64) -> Freed
+fn shrink_small(
+    img: &mut [u8],
+    geo: Geometry,
+    at: usize,
+    s: Shape,
+    keep: u64,
+    held: u64,
+) -> Result<u64, Refusal>
     requires { Frame geo img.old × (at + 256 ≤ length img.old) × (keep < 12) }
     ensures { (img.new, freed_out result) ≡ leaves (shrink_low geo at s keep held) img.old }
 {
     let o = geo.order;
     let a = inode::read_address(img, o, at, 12);
-    match ialloc_tree::free_address(img, geo, s, 1, a, BlockIdx(0), held) {
-        Freed::Held(n) => shrink_direct(img, geo, at, s, keep, n),
-        Freed::No(e) => Freed::No(e),
-    }
+    let n = ialloc_tree::free_address(img, geo, s, 1, a, BlockIdx(0), held)?;
+    shrink_direct(img, geo, at, s, keep, n)
 }
 
 // The first zone and what lies below it.
-fn shrink_low(img: &mut [u8], geo: Geometry, at: usize, s: Shape, keep: u64, held: u64) -> Freed
+fn shrink_low(
+    img: &mut [u8],
+    geo: Geometry,
+    at: usize,
+    s: Shape,
+    keep: u64,
+    held: u64,
+) -> Result<u64, Refusal>
     requires { Frame geo img.old × (at + 256 ≤ length img.old) × (keep < zone_start (per_list geo) 2) }
     ensures { (img.new, freed_out result) ≡ leaves (shrink_low geo at s keep held) img.old }
 {
@@ -82,20 +84,32 @@ fn shrink_low(img: &mut [u8], geo: Geometry, at: usize, s: Shape, keep: u64, hel
 }
 
 // The lists of the second zone freed whole, and then what lies below it.
-fn shrink_below(img: &mut [u8], geo: Geometry, at: usize, s: Shape, keep: u64, held: u64) -> Freed
+fn shrink_below(
+    img: &mut [u8],
+    geo: Geometry,
+    at: usize,
+    s: Shape,
+    keep: u64,
+    held: u64,
+) -> Result<u64, Refusal>
     requires { Frame geo img.old × (at + 256 ≤ length img.old) × (keep < zone_start (per_list geo) 2) }
     ensures { (img.new, freed_out result) ≡ leaves (shrink_mid geo at s keep held) img.old }
 {
     let o = geo.order;
     let a = inode::read_address(img, o, at, 13);
-    match ialloc_tree::free_address(img, geo, s, 2, a, BlockIdx(0), held) {
-        Freed::Held(n) => shrink_low(img, geo, at, s, keep, n),
-        Freed::No(e) => Freed::No(e),
-    }
+    let n = ialloc_tree::free_address(img, geo, s, 2, a, BlockIdx(0), held)?;
+    shrink_low(img, geo, at, s, keep, n)
 }
 
 // The second zone and what lies below it.
-fn shrink_mid(img: &mut [u8], geo: Geometry, at: usize, s: Shape, keep: u64, held: u64) -> Freed
+fn shrink_mid(
+    img: &mut [u8],
+    geo: Geometry,
+    at: usize,
+    s: Shape,
+    keep: u64,
+    held: u64,
+) -> Result<u64, Refusal>
     requires { Frame geo img.old × (at + 256 ≤ length img.old) × (keep < zone_start (per_list geo) 3) }
     ensures { (img.new, freed_out result) ≡ leaves (shrink_mid geo at s keep held) img.old }
 {
@@ -109,16 +123,14 @@ fn shrink_mid(img: &mut [u8], geo: Geometry, at: usize, s: Shape, keep: u64, hel
 }
 
 // inode_shrink: the blocks past the first `keep`.
-pub fn shrink(img: &mut [u8], geo: Geometry, at: usize, s: Shape, keep: u64) -> Freed
+pub fn shrink(img: &mut [u8], geo: Geometry, at: usize, s: Shape, keep: u64) -> Result<u64, Refusal>
     requires { Frame geo img.old × (at + 256 ≤ length img.old) × (keep < zone_start (per_list geo) 3) }
     ensures { (img.new, freed_out result) ≡ leaves (shrink geo at s keep) img.old }
 {
     let o = geo.order;
     let a = inode::read_address(img, o, at, 14);
-    match ialloc_tree::free_address(img, geo, s, 3, a, BlockIdx(0), s.blocks) {
-        Freed::Held(n) => shrink_mid(img, geo, at, s, keep, n),
-        Freed::No(e) => Freed::No(e),
-    }
+    let n = ialloc_tree::free_address(img, geo, s, 3, a, BlockIdx(0), s.blocks)?;
+    shrink_mid(img, geo, at, s, keep, n)
 }
 
 // The first of the 15 addresses that leads nowhere any more.
@@ -148,22 +160,22 @@ fn put_shrunk(img: &mut [u8], geo: Geometry, at: usize, new: u64, held: u64)
 }
 
 // inode_truncate, for calls that have judged it.
-pub fn truncate_work(img: &mut [u8], geo: Geometry, at: usize, s: Shape, new: u64) -> Truncated
+pub fn truncate_work(
+    img: &mut [u8],
+    geo: Geometry,
+    at: usize,
+    s: Shape,
+    new: u64,
+) -> Result<(), Refusal>
     requires { Frame geo img.old × (at + 256 ≤ length img.old) × (new < s.size → keep_of geo new < zone_start (per_list geo) 3) }
     ensures { (img.new, truncated_out result) ≡ leaves (truncate_work geo at s new) img.old }
 {
     if new < s.size {
-        match shrink(img, geo, at, s, keep_of(geo, new)) {
-            Freed::Held(n) => {
-                put_shrunk(img, geo, at, new, n);
-                return Truncated::Done;
-            }
-            Freed::No(e) => {
-                return Truncated::No(e);
-            }
-        }
+        let n = shrink(img, geo, at, s, keep_of(geo, new))?;
+        put_shrunk(img, geo, at, new, n);
+        return Ok(());
     }
     let o = geo.order;
     inode::put_size(img, o, at, new);
-    Truncated::Done
+    Ok(())
 }

@@ -1,4 +1,5 @@
 -- Laws of the call that writes: what is judged, and each answer. Assumes nothing.
+use Rattle.std.specs.Prelude.{Result, Ok, Err}
 use mathlib.Core.Path.{◌≡◌, refl, sym, ap, ◌∙◌}
 use mathlib.Core.Bool.{Bool, true, false, not, ◌&&◌}
 use mathlib.Core.List.{List}
@@ -14,7 +15,6 @@ use Rattle.store.specs.Act.{Out, got, refused, pure, ◌>>=◌, Left, leaves}
 use Rattle.store.proofs.ActLaws.{step-good, step-bad, leaves-pure, leaves-refuse, choose-yes, choose_no}
 use Rattle.volume.specs.declared.Geometry.{Geometry}
 use Rattle.volume.specs.declared.Volume.{Volume}
-use Rattle.sound.specs.declared.Taken.TheVariants.{Sound, Unsound}
 use Rattle.sound.specs.Test.{taken_of}
 use Rattle.frame.specs.Frame.{InodeIs}
 use Rattle.inode.specs.Size.{pick}
@@ -27,10 +27,9 @@ use Rattle.inode_run.specs.Find.{find_inode}
 use Rattle.balloc.specs.Calls.{writing}
 use Rattle.inode_grow.specs.Grow.{grow_rule}
 use Rattle.inode_setblock.specs.Set.{InTable}
-use Rattle.inode_write.specs.declared.Wrote.{Wrote}
-use Rattle.inode_write.specs.declared.Wrote.TheVariants as Wrote
 use Rattle.inode_write.specs.Write.{write_at}
 use Rattle.inode_write.specs.Calls.{limit_of, write_judged, write_found, inode_write, wrote_out, wrote_of, wrote_answer}
+use Rattle.refusal.specs.Refusal.{damage}
 
 -- ---- the end of a write
 
@@ -111,19 +110,19 @@ judged-fits geo s off n img e = by (ltb 0 n && in_place s.shape) (ltb 0 n && not
 
 -- ---- the public call
 
-answered : (r : Wrote) → wrote_of (wrote_out r) ≡ r
-answered (Wrote.Bytes n) = refl
-answered (Wrote.No e) = refl
+answered : (r : Result ℕ Refusal) → wrote_of (wrote_out r) ≡ r
+answered (Ok n) = refl
+answered (Err e) = refl
 
-pub answer_is : {x : List ℕ} {r : Wrote} {l : Left ℕ} → (x, wrote_out r) ≡ l → (x, r) ≡ wrote_answer l
-answer_is {x} {r} q = ap (λ (y : Wrote). (x, y)) (sym (answered r)) ∙ ap wrote_answer q
+pub answer_is : {x : List ℕ} {r : (Result ℕ Refusal)} {l : Left ℕ} → (x, wrote_out r) ≡ l → (x, r) ≡ wrote_answer l
+answer_is {x} {r} q = ap (λ (y : Result ℕ Refusal). (x, y)) (sym (answered r)) ∙ ap wrote_answer q
 
 module _ (vol : Volume) (i off : ℕ) (buf img : List ℕ) where
-  pub call-unsound : taken_of img ≡ Unsound → ◌≡◌ {A = Left ℕ} (img, refused Damaged) (leaves (inode_write vol i off buf) img)
+  pub call-unsound : taken_of img ≡ Err damage → ◌≡◌ {A = Left ℕ} (img, refused Damaged) (leaves (inode_write vol i off buf) img)
   unfolding inode_write writing leaves
   call-unsound t = rw t (leaves-refuse Damaged img)
 
-  module _ (geo : Geometry) (t : taken_of img ≡ Sound geo) where
+  module _ (geo : Geometry) (t : taken_of img ≡ Ok geo) where
     pub call-read-only : vol.writable ≡ false → ◌≡◌ {A = Left ℕ} (img, refused ReadOnly) (leaves (inode_write vol i off buf) img)
     unfolding inode_write writing leaves
     call-read-only w = rw t (leaves-refuse ReadOnly img ∙ choose_no _ _ img w)

@@ -1,4 +1,5 @@
 -- What is relied on of writing: what is judged stores nothing, and the layout stays at every cut. Assumes nothing.
+use Rattle.std.specs.Prelude.{Ok}
 use mathlib.Core.Path.{◌≡◌, refl}
 use mathlib.Core.List.{List, []}
 use Prim.Native.Nat.{ℕ}
@@ -9,7 +10,6 @@ use Rattle.store.specs.Act.{Out, got, refused, pure, refuse, ◌>>=◌, Always}
 use Rattle.store.proofs.AlwaysLaws.{always-choose, always-refuse}
 use Rattle.volume.specs.declared.Geometry.{Geometry}
 use Rattle.volume.specs.declared.Volume.{Volume}
-use Rattle.sound.specs.declared.Taken.TheVariants.{Sound}
 use Rattle.sound.specs.Test.{taken_of}
 use Rattle.frame.specs.Frame.{Frame}
 use Rattle.inode_run.specs.declared.Spot.{Spot}
@@ -45,7 +45,7 @@ pub write_keeps : (geo : Geometry) (img : List ℕ) → Frame geo img → (i : �
 write_keeps geo img fr i s e off buf = keeps_found geo s (in_table geo img i s.at (find-named geo img fr i s e).place) off buf img img (steady-refl geo img fr)
 
 -- the public call, on a volume that is taken
-pub call_keeps : (vol : Volume) (i off : ℕ) (buf img : List ℕ) (geo : Geometry) → taken_of img ≡ Sound geo → Always (Steady geo img) (inode_write vol i off buf) img
+pub call_keeps : (vol : Volume) (i off : ℕ) (buf img : List ℕ) (geo : Geometry) → taken_of img ≡ Ok geo → Always (Steady geo img) (inode_write vol i off buf) img
 unfolding inode_write writing
 call_keeps vol i off buf img geo t =
     always_reads (λ x. entering vol (λ geo. λ img. given (find_inode geo img i) (λ s. write_found geo s off buf) img) (taken_of x))

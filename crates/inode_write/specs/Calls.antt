@@ -1,5 +1,5 @@
 -- 01, "Inodes and mapping": the public call that writes, with the order of refusals. Assumes nothing: these are definitions.
-use Rattle.std.specs.Prelude.{not, ◌&&◌, List, ℕ, ◌+◌, ◌*◌, max, length, ltb, leb}
+use Rattle.std.specs.Prelude.{not, ◌&&◌, List, ℕ, ◌+◌, ◌*◌, max, length, ltb, leb, Result, Ok, Err}
 use Rattle.refusal.specs.declared.Refusal.TheVariants.{Damaged, TextInInode, TooBig}
 use Rattle.store.specs.Act.{Out, got, refused, Act, pure, ◌>>=◌}
 use Rattle.volume.specs.declared.Geometry.{Geometry}
@@ -14,9 +14,8 @@ use Rattle.inode_run.specs.Find.{find_inode}
 use Rattle.balloc.specs.Calls.{writing}
 use Rattle.books.specs.Work.{given}
 use Rattle.inode_grow.specs.Grow.{grow_rule}
-use Rattle.inode_write.specs.declared.Wrote.{Wrote}
-use Rattle.inode_write.specs.declared.Wrote.TheVariants as Wrote
 use Rattle.inode_write.specs.Write.{write_at}
+use Rattle.refusal.specs.declared.Refusal.{Refusal}
 
 -- where the triple zone ends, in bytes
 unfoldable pub limit_of : Geometry → ℕ
@@ -39,13 +38,13 @@ unfoldable pub inode_write : Volume → ℕ → ℕ → List ℕ → Act ℕ
 inode_write vol i off buf = writing vol (λ geo. λ img. given (find_inode geo img i) (λ s. write_found geo s off buf) img)
 
 -- the code's answer
-abbrev pub wrote_out : Wrote → Out ℕ
-wrote_out (Wrote.Bytes n) = got n
-wrote_out (Wrote.No e) = refused e
+abbrev pub wrote_out : Result ℕ Refusal → Out ℕ
+wrote_out (Ok n) = got n
+wrote_out (Err e) = refused e
 
-abbrev pub wrote_of : Out ℕ → Wrote
-wrote_of (got n) = Wrote.Bytes n
-wrote_of (refused e) = Wrote.No e
+abbrev pub wrote_of : Out ℕ → Result ℕ Refusal
+wrote_of (got n) = Ok n
+wrote_of (refused e) = Err e
 
-abbrev pub wrote_answer : List ℕ × Out ℕ → List ℕ × Wrote
+abbrev pub wrote_answer : List ℕ × Out ℕ → List ℕ × Result ℕ Refusal
 wrote_answer p = (p.0, wrote_of p.1)

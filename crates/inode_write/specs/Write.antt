@@ -1,5 +1,5 @@
 -- 01, "Inodes and mapping": writing a file's bytes. Assumes nothing: these are definitions.
-use Rattle.std.specs.Prelude.{List, [], ◌∷◌, ℕ, ◌+◌, ◌-◌, ◌*◌, ◌/◌, min, max, length, eqb, ltb}
+use Rattle.std.specs.Prelude.{List, [], ◌∷◌, ℕ, ◌+◌, ◌-◌, ◌*◌, ◌/◌, min, max, length, eqb, ltb, Result, Ok, Err}
 use Rattle.field.specs.Field.{part, zeros}
 use Rattle.refusal.specs.declared.Refusal.TheVariants.{Damaged}
 use Rattle.store.specs.Store.{Store}
@@ -14,8 +14,7 @@ use Rattle.inode_read.specs.Read.{past_last}
 use Rattle.balloc_give.specs.Give.{give_block}
 use Rattle.books.specs.Work.{given}
 use Rattle.inode_setblock.specs.Set.{set_block}
-use Rattle.inode_write.specs.declared.Counted.{Counted}
-use Rattle.inode_write.specs.declared.Counted.TheVariants as Counted
+use Rattle.refusal.specs.declared.Refusal.{Refusal}
 
 -- ---- the stores
 
@@ -70,6 +69,6 @@ write_at geo at size off buf =
     >> choose (eqb (length buf) 0) (pure (tt {0})) (reads (blocks_at geo.order at) >>= (λ h. write_blocks geo at (max size (off + length buf)) off buf h >> pure (tt {0})))
 
 -- the code's answer: the units that are then held
-abbrev pub counted_out : Counted → Out ℕ
-counted_out (Counted.Held n) = got n
-counted_out (Counted.No e) = refused e
+abbrev pub counted_out : Result ℕ Refusal → Out ℕ
+counted_out (Ok n) = got n
+counted_out (Err e) = refused e

@@ -1,7 +1,7 @@
 // inode.rs (inode_write, inode_write_block), ialloc.rs (inode_alloc_block): writing a file.
 #![tactic(auto)]
 
-ghost use Rattle.std.specs.Prelude.{◌≡◌, ◌+◌, ◌*◌, ◌≤◌, ◌<◌, min, max, leb, length};
+ghost use Rattle.std.specs.Prelude.{◌≡◌, ◌+◌, ◌*◌, ◌≤◌, ◌<◌, leb, length};
 ghost use Rattle.field.specs.Field.{part};
 ghost use Rattle.store.specs.Store.{apply};
 ghost use Rattle.store.specs.Act.{leaves};
@@ -11,27 +11,9 @@ ghost use Rattle.inode_setblock.specs.Set.{InTable, written_out};
 ghost use Rattle.inode_write.specs.Write.{fresh_store, fill_given, fill_hole, write_block, write_blocks, write_at, counted_out};
 ghost use Rattle.inode_write.specs.Calls.{limit_of, write_judged, write_found, inode_write, wrote_out, wrote_answer};
 
-use balloc_give::Gave;
-use inode_grow::Growth;
-use inode_run::{Found, Run, Spot};
-use inode_setblock::Written;
+use inode_run::{Run, Spot};
 use refusal::Refusal;
-use sound::Taken;
 use volume::{BlockIdx, FragNum, Geometry, InodeNum, Volume};
-
-// The units of 512 bytes that the inode then holds, or a refusal.
-#[derive(Clone, Copy)]
-pub enum Counted {
-    Held(u64),
-    No(Refusal),
-}
-
-// How many bytes were written, or a refusal.
-#[derive(Clone, Copy)]
-pub enum Wrote {
-    Bytes(u64),
-    No(Refusal),
-}
 
 // The n bytes of a new block: zeros, with a piece of the buffer in its place.
 fn put_fresh(
@@ -52,7 +34,7 @@ fn put_fresh(
     field::copy_bytes(img, place + from, buf, done, num);
 }
 
-// The block at a, given out for index i: its address is set, then its bytes are stored.
+// The block at a, given out for index i: its address is set, then its bytes are stored. The answer is the units of 512 bytes then held.
 fn fill_given(
     img: &mut [u8],
     geo: Geometry,
@@ -65,22 +47,18 @@ fn fill_given(
     num: usize,
     held: u64,
     a: FragNum,
-) -> Counted
+) -> Result<u64, Refusal>
     requires { Frame geo img.old × (at + 256 ≤ length img.old) × InTable geo at × RunOk geo img.old a.0 geo.frag × (n ≤ geo.bsize) × (from + num ≤ n) × (done + num ≤ length buf.now) }
     ensures { (img.new, counted_out result) ≡ leaves (fill_given geo at i.0 n from (part num done buf.now) held a.0) img.old }
 {
     let more = geo.bsize as u64 / 512;
-    if 18446744073709551615 - more < held {
-        return Counted::No(Refusal::Damaged);
+    if u64::MAX - more < held {
+        return Err(Refusal::Damaged);
     }
     let all = held + more;
-    match inode_setblock::set_block(img, geo, at, i, a, all) {
-        Written::Done => {
-            put_fresh(img, geo, a, n, from, buf, done, num);
-            Counted::Held(all)
-        }
-        Written::No(e) => Counted::No(e),
-    }
+    inode_setblock::set_block(img, geo, at, i, a, all)?;
+    put_fresh(img, geo, a, n, from, buf, done, num);
+    Ok(all)
 }
 
 // inode_alloc_block: a hole is given a block.
@@ -95,14 +73,12 @@ fn fill_hole(
     done: usize,
     num: usize,
     held: u64,
-) -> Counted
+) -> Result<u64, Refusal>
     requires { Frame geo img.old × (at + 256 ≤ length img.old) × InTable geo at × (n ≤ geo.bsize) × (from + num ≤ n) × (done + num ≤ length buf.now) }
     ensures { (img.new, counted_out result) ≡ leaves (fill_hole geo at i.0 n from (part num done buf.now) held) img.old }
 {
-    match balloc_give::blk_alloc_full(img, geo, 18446744073709551615) {
-        Gave::Block(a, m) => fill_given(img, geo, at, i, n, from, buf, done, num, held, a),
-        Gave::No(e) => Counted::No(e),
-    }
+    let (a, _) = balloc_give::blk_alloc_full(img, geo, u64::MAX)?;
+    fill_given(img, geo, at, i, n, from, buf, done, num, held, a)
 }
 
 // inode_write_block: `num` bytes of the buffer, from `done` on, go to block i from its byte `from` on.
@@ -117,25 +93,19 @@ fn write_block(
     done: usize,
     num: usize,
     held: u64,
-) -> Counted
+) -> Result<u64, Refusal>
     requires { Frame geo img.old × (at + 256 ≤ length img.old) × InTable geo at × (0 < num) × (from + num ≤ geo.bsize) × (i.0 * geo.bsize + (from + num) ≤ size) × (done + num ≤ length buf.now) }
     ensures { (img.new, counted_out result) ≡ leaves (write_block geo at size i.0 from (part num done buf.now) held) img.old }
 {
     match inode_run::run_of(img, geo, at, size, i) {
-        Run::At(a, n) => {
+        Run::At(a, _) => {
             field::copy_bytes(img, volume::address_at(geo, a) + from, buf, done, num);
-            Counted::Held(held)
+            Ok(held)
         }
         Run::Hole(n) => fill_hole(img, geo, at, i, n, from, buf, done, num, held),
-        Run::Past => Counted::No(Refusal::Damaged),
-        Run::Bad => Counted::No(Refusal::Damaged),
+        Run::Past => Err(Refusal::Damaged),
+        Run::Bad => Err(Refusal::Damaged),
     }
-}
-
-fn least(a: usize, b: usize) -> usize
-    ensures { result ≡ min a b }
-{
-    if a < b { a } else { b }
 }
 
 // The buffer's bytes, block by block from `off` on.
@@ -147,7 +117,7 @@ fn write_blocks(
     off: u64,
     buf: &[u8],
     held: u64,
-) -> Counted
+) -> Result<u64, Refusal>
     requires { Frame geo img.old × (at + 256 ≤ length img.old) × InTable geo at × (0 < length buf.now) × (off + length buf.now ≤ size) }
     ensures { (img.new, counted_out result) ≡ leaves (write_blocks geo at size off buf.now held) img.old }
 {
@@ -157,27 +127,15 @@ fn write_blocks(
     let mut from = (off % bs) as usize;
     let mut done = 0;
     let mut all = held;
+    // not a `for`: the step is the piece's length
     while done < n {
-        let num = least(geo.bsize as usize - from, n - done);
-        match write_block(img, geo, at, size, BlockIdx(i), from, buf, done, num, all) {
-            Counted::Held(h) => {
-                all = h;
-            }
-            Counted::No(e) => {
-                return Counted::No(e);
-            }
-        }
+        let num = (geo.bsize as usize - from).min(n - done);
+        all = write_block(img, geo, at, size, BlockIdx(i), from, buf, done, num, all)?;
         done += num;
         from = 0;
         i += 1;
     }
-    Counted::Held(all)
-}
-
-fn most(a: u64, b: u64) -> u64
-    ensures { result ≡ max a b }
-{
-    if a < b { b } else { a }
+    Ok(all)
 }
 
 // The buffer's bytes from `off` on, of a file of that size until then: the size first, then block by block.
@@ -188,21 +146,19 @@ pub fn write_at(
     size: u64,
     off: u64,
     buf: &[u8],
-) -> Written
+) -> Result<(), Refusal>
     requires { Frame geo img.old × (at + 256 ≤ length img.old) × InTable geo at × (off + length buf.now < 18446744073709551616) }
     ensures { (img.new, written_out result) ≡ leaves (write_at geo at size off buf.now) img.old }
 {
     let o = geo.order;
-    let new = most(size, off + buf.len() as u64);
+    let new = size.max(off + buf.len() as u64);
     inode::put_size(img, o, at, new);
     if buf.len() == 0 {
-        return Written::Done;
+        return Ok(());
     }
     let held = inode::read_blocks(img, o, at);
-    match write_blocks(img, geo, at, new, off, buf, held) {
-        Counted::Held(h) => Written::Done,
-        Counted::No(e) => Written::No(e),
-    }
+    write_blocks(img, geo, at, new, off, buf, held)?;
+    Ok(())
 }
 
 // Whether n bytes from `off` on end where the triple zone ends, or before.
@@ -222,51 +178,47 @@ fn in_limit(geo: Geometry, off: u64, n: usize) -> bool
 }
 
 // What is judged before the first store.
-fn judge_write(img: &[u8], geo: Geometry, s: Spot, off: u64, n: usize) -> Growth
+fn judge_write(img: &[u8], geo: Geometry, s: Spot, off: u64, n: usize) -> Result<(), Refusal>
     requires { Frame geo img.now × (s.at + 256 ≤ length img.now) }
     ensures { growth_out result ≡ write_judged geo s off n img.now }
 {
     let shape = s.shape;
     if (0 < n) & inode::is_in_place(shape) {
-        return Growth::No(Refusal::TextInInode);
+        return Err(Refusal::TextInInode);
     }
     if (0 < n) & !inode::is_sized(shape) {
-        return Growth::No(Refusal::Damaged);
+        return Err(Refusal::Damaged);
     }
     if !in_limit(geo, off, n) {
-        return Growth::No(Refusal::TooBig);
+        return Err(Refusal::TooBig);
     }
-    inode_grow::grow_rule(img, geo, s.at, shape, most(shape.size, off + n as u64))
+    inode_grow::grow_rule(img, geo, s.at, shape, shape.size.max(off + n as u64))
 }
 
 // Writing to an inode that is found.
-fn write_found(img: &mut [u8], geo: Geometry, s: Spot, off: u64, buf: &[u8]) -> Wrote
+fn write_found(img: &mut [u8], geo: Geometry, s: Spot, off: u64, buf: &[u8]) -> Result<u64, Refusal>
     requires { Frame geo img.old × (s.at + 256 ≤ length img.old) × InTable geo s.at }
     ensures { (img.new, wrote_out result) ≡ leaves (write_found geo s off buf.now) img.old }
 {
-    match judge_write(img, geo, s, off, buf.len()) {
-        Growth::Free => match write_at(img, geo, s.at, s.shape.size, off, buf) {
-            Written::Done => Wrote::Bytes(buf.len() as u64),
-            Written::No(e) => Wrote::No(e),
-        },
-        Growth::No(e) => Wrote::No(e),
-    }
+    judge_write(img, geo, s, off, buf.len())?;
+    write_at(img, geo, s.at, s.shape.size, off, buf)?;
+    Ok(buf.len() as u64)
 }
 
 // inode_write: the buffer's bytes go to the file from `off` on.
-pub fn inode_write(img: &mut [u8], vol: Volume, inr: InodeNum, off: u64, buf: &[u8]) -> Wrote
+pub fn inode_write(
+    img: &mut [u8],
+    vol: Volume,
+    inr: InodeNum,
+    off: u64,
+    buf: &[u8],
+) -> Result<u64, Refusal>
     ensures { (img.new, result) ≡ wrote_answer (leaves (inode_write vol inr.0 off buf.now) img.old) }
 {
-    match sound::take_volume(img) {
-        Taken::Sound(geo) => {
-            if !vol.writable {
-                return Wrote::No(Refusal::ReadOnly);
-            }
-            match inode_run::find_inode(img, geo, inr) {
-                Found::At(s) => write_found(img, geo, s, off, buf),
-                Found::No(e) => Wrote::No(e),
-            }
-        }
-        Taken::Unsound => Wrote::No(Refusal::Damaged),
+    let geo = sound::take_volume(img)?;
+    if !vol.writable {
+        return Err(Refusal::ReadOnly);
     }
+    let s = inode_run::find_inode(img, geo, inr)?;
+    write_found(img, geo, s, off, buf)
 }

@@ -1,25 +1,22 @@
 -- Laws of the mapping: its cases, and where a list's entries stand. Assumes nothing.
-use mathlib.Core.Path.{◌≡◌, refl, sym, ap, subst, ◌∙◌}
+use mathlib.Core.Path.{◌≡◌, refl, ap, ◌∙◌}
 use mathlib.Core.Bool.{Bool, true, false}
 use mathlib.Core.List.{List}
 use Prim.Native.Nat.{ℕ, zero, suc, ◌+◌, ◌-◌, ◌*◌, ◌/◌, ◌%◌, ◌<◌, ◌≤◌, ◌^◌}
-use native.Mathlib.Nat.{div-mul-le_self, mul-le-mul, le_refl, mul_comm}
+use native.Mathlib.Nat.{mul_comm}
 use native.Mathlib.Omega.{arith}
 use lib.ListN.{length}
-use lib.Dec.{eqb}
 use borrow.Author.Tests.{eq-eqb, ne_eqb}
 use Rattle.volume.specs.declared.Geometry.{Geometry}
-use Rattle.frame.specs.Frame.{Frame, RunOk}
+use Rattle.frame.specs.Frame.{Frame}
 use Rattle.frame.proofs.Places.{run_is, run_inside}
-use Rattle.inode.specs.Size.{pick}
 use Rattle.inode.proofs.SizeLaws.{units}
-use Rattle.mapping.specs.declared.Mapped.{Mapped}
 use Rattle.mapping.specs.declared.Mapped.TheVariants.{At, Hole, Bad, Past}
 use Rattle.volume.specs.declared.BlockIdx.{BlockIdx}
 use Rattle.inode.specs.Shape.{address_at}
 use Rattle.mapping.specs.declared.Place.TheVariants as Place
 use Rattle.mapping.specs.Zones.{place_of}
-use Rattle.mapping.specs.Mapping.{per_list, entry_at, list_ok, down_by, down, mapped}
+use Rattle.mapping.specs.Mapping.{per_list, list_ok, down_by, down, mapped}
 
 pred_suc : (l : ℕ) → suc l - 1 ≡ l
 pred_suc l = omega arith

@@ -1,15 +1,13 @@
 -- 01, "Inodes and mapping": from a block index to the address of its block. Assumes nothing: these are definitions.
-use Rattle.std.specs.Prelude.{Bool, true, false, List, ℕ, zero, suc, ◌+◌, ◌*◌, ◌/◌, ◌%◌, ◌^◌, eqb}
+use Rattle.std.specs.Prelude.{Bool, List, ℕ, zero, suc, ◌+◌, ◌*◌, ◌/◌, ◌%◌, ◌^◌, eqb}
 use Rattle.field.specs.Field.{num}
 use Rattle.volume.specs.declared.Geometry.{Geometry}
-use Rattle.volume.specs.declared.BlockIdx.{BlockIdx}
 use Rattle.frame.specs.Frame.{run_okb}
 use Rattle.inode.specs.Size.{pick}
 use Rattle.inode.specs.Shape.{address_at}
 use Rattle.mapping.specs.declared.Mapped.{Mapped}
 use Rattle.mapping.specs.declared.Mapped.TheVariants.{At, Hole, Bad, Past}
 use Rattle.mapping.specs.declared.Place.{Place}
-use Rattle.mapping.specs.declared.Place.TheVariants as Place
 use Rattle.mapping.specs.Zones.{place_of}
 
 -- an address in a list is one of 64 bits

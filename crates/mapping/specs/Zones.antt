@@ -1,6 +1,5 @@
 -- 01, "Inodes and mapping": the zones of a file's block indexes, over the number p of addresses in a list. Assumes nothing: these are definitions.
-use Rattle.std.specs.Prelude.{Bool, true, false, List, [], ◌∷◌, ℕ, zero, suc, ◌+◌, ◌-◌, ◌*◌, ◌/◌, ◌%◌, ◌^◌, ◌<◌, ◌≤◌, ltb}
-use Rattle.volume.specs.declared.BlockIdx.{BlockIdx}
+use Rattle.std.specs.Prelude.{List, [], ◌∷◌, ℕ, zero, suc, ◌+◌, ◌-◌, ◌/◌, ◌%◌, ◌^◌, ltb}
 use Rattle.inode.specs.Size.{pick}
 use Rattle.mapping.specs.declared.Place.{Place}
 use Rattle.mapping.specs.declared.Place.TheVariants.{Under, Past}

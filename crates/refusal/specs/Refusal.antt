@@ -1,5 +1,6 @@
 -- 01, "Numbers given back (FreeBSD errno.h)". Assumes nothing: these are definitions.
 use Rattle.std.specs.Prelude.{Bool, true, false, List, [], ◌∷◌, ℕ, eqb}
+use Rattle.refusal.specs.declared.Damage.{Damage}
 use Rattle.refusal.specs.declared.Refusal.{Refusal}
 use Rattle.refusal.specs.declared.Refusal.TheVariants.{NoEntry, TextInInode, LinkedInode, Exists, NotDirectory, IsDirectory, Invalid, TooBig, NoSpace, ReadOnly, TooManyLinks, BufferTooSmall, NotSupported, NameTooLong, NotEmpty, NoAttribute, Damaged}
 
@@ -64,3 +65,7 @@ refusal_in (w ∷ ws) n = pick (eqb w.number n) w.given (refusal_in ws n)
 
 unfoldable pub refusal_of : ℕ → Refusal
 refusal_of n = refusal_in table n
+
+-- what work that only damage can stop is refused with
+abbrev pub damage : Damage
+damage = record {}

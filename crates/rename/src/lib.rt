@@ -7,10 +7,8 @@ ghost use Rattle.frame.specs.Frame.{Frame};
 ghost use Rattle.dirlink.specs.Link.{gone_out};
 ghost use Rattle.rename.specs.Rename.{rename_for, rename_call};
 
-use dirlink::Gone;
 use refusal::Refusal;
 use rename_judge::Verdict;
-use sound::Taken;
 use volume::{Geometry, InodeNum, Volume};
 
 // Judged, and then moved; onto itself a name stays.
@@ -22,16 +20,15 @@ fn rename_in(
     sdinr: InodeNum,
     sname: &[u8],
     replace: bool,
-) -> Gone
+) -> Result<u32, Refusal>
     requires { Frame geo img.old }
     ensures { (img.new, gone_out result) ≡ leaves (rename_for (record { to = ddinr.0; new = dname.now; from = sdinr.0; old = sname.now; replace = replace }) geo) img.old }
 {
-    match rename_judge::judge_rename(img, geo, ddinr, dname, sdinr, sname, replace) {
-        Verdict::Same(i) => Gone::Inode(i),
-        Verdict::Move(i, kind, clears) => {
-            dirmove::move_name(img, geo, ddinr, dname, sdinr, sname, clears, i, kind)
-        }
-        Verdict::No(e) => Gone::No(e),
+    match rename_judge::judge_rename(img, geo, ddinr, dname, sdinr, sname, replace)? {
+        Verdict::Same(i) => Ok(i),
+        Verdict::Move(i, kind, clears) => dirmove::move_name(
+            img, geo, ddinr, dname, sdinr, sname, clears, i, kind,
+        ),
     }
 }
 
@@ -44,17 +41,12 @@ pub fn rename(
     sdinr: InodeNum,
     sname: &[u8],
     replace: bool,
-) -> Gone
+) -> Result<u32, Refusal>
     ensures { (img.new, gone_out result) ≡ leaves (rename_call vol (record { to = ddinr.0; new = dname.now; from = sdinr.0; old = sname.now; replace = replace })) img.old }
 {
-    let t = sound::take_volume(img);
-    match t {
-        Taken::Sound(geo) => {
-            if !vol.writable {
-                return Gone::No(Refusal::ReadOnly);
-            }
-            rename_in(img, geo, ddinr, dname, sdinr, sname, replace)
-        }
-        Taken::Unsound => Gone::No(Refusal::Damaged),
+    let geo = sound::take_volume(img)?;
+    if !vol.writable {
+        return Err(Refusal::ReadOnly);
     }
+    rename_in(img, geo, ddinr, dname, sdinr, sname, replace)
 }

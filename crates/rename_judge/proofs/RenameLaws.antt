@@ -1,11 +1,12 @@
 -- Laws of `specs/Rename.antt`, in the form in which the code meets them. Assumes nothing.
+use Rattle.std.specs.Prelude.{Option, Some, Result, Ok, Err}
 use mathlib.Core.Path.{◌≡◌, refl, sym, ap, subst, ◌∙◌}
 use mathlib.Core.Bool.{Bool, true, false, not, ◌&&◌, ◌||◌}
 use mathlib.Core.List.{List}
 use Prim.Native.Nat.{ℕ, ◌-◌, ◌*◌, ◌/◌, ◌%◌, ◌≤◌, ◌<◌}
 use native.Mathlib.Omega.{arith}
 use lib.ListN.{length}
-use lib.Dec.{eqb, ltb}
+use lib.Dec.{eqb}
 use borrow.Author.Tests.{eq-eqb, ne_eqb}
 use Rattle.bits.proofs.UptoLaws.{both}
 use Rattle.field.specs.Field.{part}
@@ -14,15 +15,11 @@ use Rattle.refusal.specs.declared.Refusal.TheVariants.{Invalid, Damaged, NotDire
 use Rattle.store.specs.Act.{Out, got, refused}
 use Rattle.volume.specs.declared.Geometry.{Geometry}
 use Rattle.volume.specs.Volume.{inode_at}
-use Rattle.inode.specs.declared.Kind.{Kind}
-use Rattle.inode.specs.Shape.{type_of, is_dir}
-use Rattle.inode.specs.Kind.{kind_of}
+use Rattle.inode.specs.Shape.{is_dir}
 use Rattle.inode.specs.Places.{nlink_at}
 use Rattle.inode_run.specs.declared.Spot.{Spot}
 use Rattle.inode_run.specs.Judge.{ask}
-use Rattle.inode_run.specs.Find.{typed, spot_of}
-use Rattle.inode_grow.specs.declared.Growth.{Growth}
-use Rattle.inode_grow.specs.declared.Growth.TheVariants as Growth
+use Rattle.inode_run.specs.Find.{typed}
 use Rattle.inode_grow.specs.Grow.{growth_out}
 use Rattle.stages.specs.Stages.{both_out}
 use Rattle.stages.proofs.StagesLaws.{both_first, both_then, both_passed}
@@ -32,18 +29,14 @@ use Rattle.dirblock.proofs.WriteLaws.{part-whole}
 use Rattle.dirfile.specs.Block.{dir_block}
 use Rattle.dirfile.specs.Seek.{Sought, here, nowhere, hurt, seek_from, in_block}
 use Rattle.dirwalk.specs.declared.Hit.{Hit}
-use Rattle.dirwalk.specs.declared.Looked.{Looked}
-use Rattle.dirwalk.specs.declared.Looked.TheVariants as Looked
-use Rattle.dirwalk.specs.declared.Seen.{Seen}
-use Rattle.dirwalk.specs.declared.Seen.TheVariants as Seen
 use Rattle.dirwalk.specs.Walk.{lookup_dir, find_dir, roomy_in, looked_out, seen_out}
 use Rattle.dirwalk.proofs.HereLaws.{find-here}
 use Rattle.dirjudge.specs.Judge.{link_end}
-use Rattle.unlink_judge.specs.Unlink.{hit_where, on_hit, in_dir_only, found_ok}
+use Rattle.unlink_judge.specs.Unlink.{hit_where, in_dir_only, found_ok}
 use Rattle.unlink_judge.proofs.UnlinkLaws.{found_number}
 use Rattle.rename_judge.specs.declared.Verdict.{Verdict}
-use Rattle.rename_judge.specs.declared.Verdict.TheVariants as Verdict
-use Rattle.rename_judge.specs.Rename.{Asked, same, inode_in, record_in, inode_of_hit, Facts, facts_in, links_of, is_file, is_named, has_kind, hit_ok, freed_first, not_freed, own_ok, others_ok, is_of, rises_out, source_falls, rooms_but, room_but, room_then, size_then, ends_out, tails_out, room_out, tests, Holds, InWay, move_of, moving_out}
+use Rattle.rename_judge.specs.Rename.{Asked, same, inode_in, record_in, inode_of_hit, Facts, facts_in, links_of, hit_ok, freed_first, not_freed, own_ok, others_ok, is_of, rises_out, rooms_but, room_but, room_then, size_then, ends_out, tails_out, room_out, tests, Holds, InWay, move_of, moving_out}
+use Rattle.refusal.specs.declared.Damage.{Damage}
 
 -- ---- names
 
@@ -61,20 +54,20 @@ same-is a b q t e = rw (← q) e
 
 -- ---- one step after another
 
-pub both_is : (x y z : Out (Unit {0})) (a : Growth) → growth_out a ≡ x → a ≡ Growth.Free → z ≡ y → z ≡ both_out x y
-both_is x y z a p e q = q ∙ sym (both_then x y (sym p ∙ ap growth_out e))
+pub both_is : (x y z : Out (Unit {0})) → got (tt {0}) ≡ x → z ≡ y → z ≡ both_out x y
+both_is x y z p q = q ∙ sym (both_then x y (sym p))
 
-pub both_no : (x y : Out (Unit {0})) (a : Growth) (e : Refusal) → growth_out a ≡ x → a ≡ Growth.No e → refused e ≡ both_out x y
-both_no x y a e p q = sym (both_first x y e (sym p ∙ ap growth_out q))
+pub both_no : (x y : Out (Unit {0})) (r : Result (Unit {0}) Refusal) (e : Refusal) → r ≡ Err e → refused e ≡ x → growth_out r ≡ both_out x y
+both_no x y r e q p = ap growth_out q ∙ sym (both_first x y e (sym p))
 
 -- ---- what was found
 
 module _ (geo : Geometry) (img : List ℕ) where
-  pub looked-number : (l : Looked) (i : ℕ) → l ≡ Looked.At i → hit_where (looked_out l) (found_ok geo img) ≡ true → i < geo.ncg * geo.ipg
-  looked-number l i e h = found_number geo img i (sym (ap (λ (x : Looked). hit_where (looked_out x) (found_ok geo img)) e) ∙ h)
+  pub looked-number : (l : Result (Option ℕ) Damage) (i : ℕ) → l ≡ Ok (Some i) → hit_where (looked_out l) (found_ok geo img) ≡ true → i < geo.ncg * geo.ipg
+  looked-number l i e h = found_number geo img i (sym (ap (λ (x : Result (Option ℕ) Damage). hit_where (looked_out x) (found_ok geo img)) e) ∙ h)
 
-  pub seen-number : (s : Seen) (w : Hit) → s ≡ Seen.At w → hit_where (seen_out s) (hit_ok geo img) ≡ true → w.inr < geo.ncg * geo.ipg
-  seen-number s w e h = found_number geo img w.inr (sym (ap (λ (x : Seen). hit_where (seen_out x) (hit_ok geo img)) e) ∙ h)
+  pub seen-number : (s : Result (Option Hit) Damage) (w : Hit) → s ≡ Ok (Some w) → hit_where (seen_out s) (hit_ok geo img) ≡ true → w.inr < geo.ncg * geo.ipg
+  seen-number s w e h = found_number geo img w.inr (sym (ap (λ (x : Result (Option Hit) Damage). hit_where (seen_out x) (hit_ok geo img)) e) ∙ h)
 
   pub links-is : (i at n : ℕ) → at ≡ inode_at geo i → n ≡ nlink_at geo.order at img → n ≡ links_of geo img i
   links-is i at n e q = q ∙ ap (λ (x : ℕ). nlink_at geo.order x img) e
@@ -177,18 +170,7 @@ module _ (geo : Geometry) (img : List ℕ) where
 
 -- ---- kinds
 
-module _ (geo : Geometry) (img : List ℕ) (l : Looked) (i : ℕ) (e : l ≡ Looked.At i) (s : Spot) (q : s ≡ spot_of geo img i) where
-  pub file-is : (d : Bool) → d ≡ is_dir s.shape → not d ≡ hit_where (looked_out l) (is_file geo img)
-  file-is d h = rw (e, h, q)
-
-  pub kind-is : (k : Kind) → k ≡ kind_of (type_of s.shape.mode) → is_named k ≡ hit_where (looked_out l) (has_kind geo img)
-  kind-is k h = rw (e, h, q)
-
-pub move-is : (geo : Geometry) (img : List ℕ) (l : Looked) (i : ℕ) → l ≡ Looked.At i → (s : Spot) → s ≡ spot_of geo img i → (clears : Bool) (t : ℕ) → t ≡ type_of s.shape.mode
-    → Verdict.Move i t clears ≡ move_of geo img clears (looked_out l)
-move-is geo img l i e s q clears t h = rw (e, h, q)
-
-pub move-at : (geo : Geometry) (img : List ℕ) (r y x : Bool) → y ≡ x → (l : Sought ℕ) (v : Verdict) → v ≡ move_of geo img (r && y) l → v ≡ move_of geo img (r && x) l
+pub move-at : (geo : Geometry) (img : List ℕ) (r y x : Bool) → y ≡ x → (l : Sought ℕ) (v : Result Verdict Refusal) → v ≡ move_of geo img (r && y) l → v ≡ move_of geo img (r && x) l
 move-at geo img r y x e l v q = subst (λ (b : Bool). v ≡ move_of geo img (r && b) l) e q
 
 -- ---- counts
@@ -197,13 +179,10 @@ pub freed_is : (geo : Geometry) (img : List ℕ) (to from t i w n : ℕ) → n �
 unfolding freed_first
 freed_is geo img to from t i w n p = rw p
 
+-- the moved inode's count may rise
 pub rise_is : (geo : Geometry) (img : List ℕ) (target : Sought Hit) (i n : ℕ) → n ≡ links_of geo img i → (b : Bool) → b ≡ is_of i target → (t : Bool) → (not (eqb n 65535) || b) ≡ t
     → ask t TooManyLinks (got (tt {0})) ≡ rises_out geo img target i
 rise_is geo img target i n p b q t e = rw (← p, ← q, e)
-
-pub fall-is : (geo : Geometry) (img : List ℕ) (source : Seen) (w : Hit) → source ≡ Seen.At w → (i n : ℕ) → n ≡ links_of geo img w.inr → (t : Bool) → (eqb w.inr i || ltb 0 n) ≡ t
-    → ask t Damaged (got (tt {0})) ≡ on_hit (seen_out source) (source_falls geo img i)
-fall-is geo img source w h i n p t e = rw (h, ← p, e)
 
 -- ---- room
 
@@ -224,15 +203,11 @@ module _ (geo : Geometry) (at size : ℕ) (img : List ℕ) (n j : ℕ) where
 
 -- ---- sizes
 
-pub holds-block : (size : ℕ) (s : Seen) (h : Hit) → s ≡ Seen.At h → Holds size (seen_out s) → 512 ≤ size
-holds-block size s h e p = subst (λ (x : Seen). Holds size (seen_out x)) e p
+pub holds-block : (size : ℕ) (s : Result (Option Hit) Damage) (h : Hit) → s ≡ Ok (Some h) → Holds size (seen_out s) → 512 ≤ size
+holds-block size s h e p = subst (λ (x : Result (Option Hit) Damage). Holds size (seen_out x)) e p
 
 pub end-at : (geo : Geometry) (room : Sought ℕ) (x : Out (Unit {0})) (z w : ℕ) → z ≡ w → x ≡ link_end geo z room → x ≡ link_end geo w room
 end-at geo room x z w e q = subst (λ (k : ℕ). x ≡ link_end geo k room) e q
-
--- where nothing goes first the directory keeps its size
-pub end-kept : (geo : Geometry) (room : Sought ℕ) (size : ℕ) (s t : Seen) → s ≡ t → link_end geo (size_then size (seen_out s)) room ≡ got (tt {0}) → link_end geo (size_then size (seen_out t)) room ≡ got (tt {0})
-end-kept geo room size s t e q = subst (λ (x : Seen). link_end geo (size_then size (seen_out x)) room ≡ got (tt {0})) e q
 
 -- ---- 27, then 45, in the room that was found
 
@@ -241,9 +216,9 @@ pub room-is : (geo : Geometry) (img : List ℕ) (to : Spot) (old n : ℕ) (sourc
 room-is geo img to old n source target room e z q =
     subst (λ (x : Sought ℕ). z ≡ both_out (ends_out geo to.shape.size old source target x) (tails_out geo img to old source target x)) e q
 
-pub ends-link : (geo : Geometry) (size old : ℕ) (source target : Sought Hit) (room : Sought ℕ) (g : Growth) → growth_out g ≡ ends_out geo size old source target room → g ≡ Growth.Free
+pub ends-link : (geo : Geometry) (size old : ℕ) (source target : Sought Hit) (room : Sought ℕ) → got (tt {0}) ≡ ends_out geo size old source target room
     → link_end geo (size_then size target) room ≡ got (tt {0})
-ends-link geo size old source target room g p e = (both_passed _ _ (both_passed _ _ (sym p ∙ ap growth_out e)).0).1
+ends-link geo size old source target room p = (both_passed _ _ (both_passed _ _ (sym p)).0).1
 
 -- ---- 22, 20, 21 and a kind that has no name, one after another
 
@@ -274,10 +249,10 @@ tests-inodes true d f k o h = refl
 tests-inodes false d f k o h = absurd (let z : ◌≡◌ {A = ℕ} 0 1 = cc in let y : ⊥ = omega arith in y)
 
 -- what is judged free has a moved file that is one of the volume's
-pub moving-own : (geo : Geometry) (img : List ℕ) (dd sd : ℕ) (to from : Spot) (n : ℕ) (replace : Bool) (f : Facts) (g : Growth)
-    → growth_out g ≡ moving_out geo img dd sd to from n replace f → g ≡ Growth.Free → hit_where f.moved (found_ok geo img) ≡ true
-moving-own geo img dd sd to from n replace f g p e =
-    own-moved geo img to from f.moved (both (own_ok geo img to from f.moved) (others_ok geo img dd sd f) (tests-inodes _ _ _ _ _ (sym p ∙ ap growth_out e))).0
+pub moving-own : (geo : Geometry) (img : List ℕ) (dd sd : ℕ) (to from : Spot) (n : ℕ) (replace : Bool) (f : Facts)
+    → got (tt {0}) ≡ moving_out geo img dd sd to from n replace f → hit_where f.moved (found_ok geo img) ≡ true
+moving-own geo img dd sd to from n replace f p =
+    own-moved geo img to from f.moved (both (own_ok geo img to from f.moved) (others_ok geo img dd sd f) (tests-inodes _ _ _ _ _ (sym p))).0
 
 -- a test of two parts, as the code makes it
 pub two_both : (a b x y : Bool) → a ≡ x → b ≡ y → (a && b) ≡ true → (x ≡ true) × (y ≡ true)

@@ -1,4 +1,5 @@
 -- What each answer of `judge_rename` says: the order of the stages is passed or not, and the file that was found. rename goes on from there. Assumes nothing.
+use Rattle.std.specs.Prelude.{Result, Ok, Err}
 use mathlib.Core.Path.{◌≡◌, refl, sym, ap, ◌∙◌}
 use mathlib.Core.Bool.{Bool, true, false, ◌&&◌}
 use mathlib.Core.List.{List}
@@ -73,12 +74,12 @@ module _ (geo : Geometry) (img : List ℕ) (a : Asked) where
         let w = there-here (facts_of geo img a).moved (moved_by n l u (same a) refl) in
         record { short = short-length a.new (both (short a.new) (short a.old) l).0; inode = w.0; moved = w.1 }
 
-    pub told-passed-same : same a ≡ true → (i : ℕ) → (facts_of geo img a).moved ≡ here i → verdict_of geo img a ≡ Verdict.Same i
+    pub told-passed-same : same a ≡ true → (i : ℕ) → (facts_of geo img a).moved ≡ here i → verdict_of geo img a ≡ Ok (Verdict.Same i)
     unfolding verdict_of
     told-passed-same t i m = rw (h, t, m)
 
     pub told-passed-apart : same a ≡ false → (i : ℕ) → (facts_of geo img a).moved ≡ here i
-        → verdict_of geo img a ≡ Verdict.Move i (type_of (spot_of geo img i).shape.mode) (a.replace && is_there (facts_of geo img a).way)
+        → verdict_of geo img a ≡ Ok (Verdict.Move i (type_of (spot_of geo img i).shape.mode) (a.replace && is_there (facts_of geo img a).way))
     unfolding verdict_of
     told-passed-apart t i m = rw (h, t, m)
 
@@ -98,49 +99,49 @@ module _ (geo : Geometry) (img : List ℕ) (a : Asked) where
     pub clears : c ≡ (a.replace && is_there (facts_of geo img a).way)
     pub short : length a.new < 256
 
-  pub told-no : (e : Refusal) → Verdict.No e ≡ verdict_of geo img a → in_order (rename_stages geo img a) ≡ refused e
+  pub told-no : (e : Refusal) → Err e ≡ verdict_of geo img a → in_order (rename_stages geo img a) ≡ refused e
   told-no e v = by (in_order (rename_stages geo img a)) refl
     where
       passed : in_order (rename_stages geo img a) ≡ got (tt {0}) → (t : Bool) → same a ≡ t → ⊥
-      passed h true q = let r = rename-passed h in let x : Verdict.No e ≡ Verdict.Same r.inode = v ∙ told-passed-same h q r.inode r.moved in let z : ◌≡◌ {A = ℕ} 0 1 = cc in omega arith
+      passed h true q = let r = rename-passed h in let x : ◌≡◌ {A = Result Verdict Refusal} (Err e) (Ok (Verdict.Same r.inode)) = v ∙ told-passed-same h q r.inode r.moved in let z : ◌≡◌ {A = ℕ} 0 1 = cc in omega arith
       passed h false q =
           let r = rename-passed h in
-          let x : Verdict.No e ≡ Verdict.Move r.inode (type_of (spot_of geo img r.inode).shape.mode) (a.replace && is_there (facts_of geo img a).way) = v ∙ told-passed-apart h q r.inode r.moved in
+          let x : ◌≡◌ {A = Result Verdict Refusal} (Err e) (Ok (Verdict.Move r.inode (type_of (spot_of geo img r.inode).shape.mode) (a.replace && is_there (facts_of geo img a).way))) = v ∙ told-passed-apart h q r.inode r.moved in
           let z : ◌≡◌ {A = ℕ} 0 1 = cc in omega arith
 
       by : (o : Out (Unit {0})) → in_order (rename_stages geo img a) ≡ o → in_order (rename_stages geo img a) ≡ refused e
       by (got u) h = absurd (passed h (same a) refl)
-      by (refused f) h = let x : Verdict.No e ≡ Verdict.No f = v ∙ sym (stopped geo img a f h) in let y : f ≡ e = cc in h ∙ ap refused y
+      by (refused f) h = let x : ◌≡◌ {A = Result Verdict Refusal} (Err e) (Err f) = v ∙ sym (stopped geo img a f h) in let y : f ≡ e = cc in h ∙ ap refused y
 
-  pub told_same : (i : ℕ) → Verdict.Same i ≡ verdict_of geo img a → Stays i
+  pub told_same : (i : ℕ) → Ok (Verdict.Same i) ≡ verdict_of geo img a → Stays i
   told_same i v = by (in_order (rename_stages geo img a)) refl
     where
       passed : in_order (rename_stages geo img a) ≡ got (tt {0}) → (t : Bool) → same a ≡ t → Stays i
       passed h true q =
           let r = rename-passed h in
-          let x : Verdict.Same i ≡ Verdict.Same r.inode = v ∙ told-passed-same h q r.inode r.moved in
+          let x : ◌≡◌ {A = Result Verdict Refusal} (Ok (Verdict.Same i)) (Ok (Verdict.Same r.inode)) = v ∙ told-passed-same h q r.inode r.moved in
           let y : r.inode ≡ i = cc in
           record { passed = h; alike = q; moved = r.moved ∙ ap here y }
       passed h false q =
           absurd (let r = rename-passed h in
-          let x : Verdict.Same i ≡ Verdict.Move r.inode (type_of (spot_of geo img r.inode).shape.mode) (a.replace && is_there (facts_of geo img a).way) = v ∙ told-passed-apart h q r.inode r.moved in
+          let x : ◌≡◌ {A = Result Verdict Refusal} (Ok (Verdict.Same i)) (Ok (Verdict.Move r.inode (type_of (spot_of geo img r.inode).shape.mode) (a.replace && is_there (facts_of geo img a).way))) = v ∙ told-passed-apart h q r.inode r.moved in
           let z : ◌≡◌ {A = ℕ} 0 1 = cc in let y : ⊥ = omega arith in y)
 
       by : (o : Out (Unit {0})) → in_order (rename_stages geo img a) ≡ o → Stays i
       by (got u) h = passed h (same a) refl
-      by (refused f) h = absurd (let x : Verdict.Same i ≡ Verdict.No f = v ∙ sym (stopped geo img a f h) in let z : ◌≡◌ {A = ℕ} 0 1 = cc in let y : ⊥ = omega arith in y)
+      by (refused f) h = absurd (let x : ◌≡◌ {A = Result Verdict Refusal} (Ok (Verdict.Same i)) (Err f) = v ∙ sym (stopped geo img a f h) in let z : ◌≡◌ {A = ℕ} 0 1 = cc in let y : ⊥ = omega arith in y)
 
-  pub told_move : (i k : ℕ) (c : Bool) → Verdict.Move i k c ≡ verdict_of geo img a → Moves i k c
+  pub told_move : (i k : ℕ) (c : Bool) → Ok (Verdict.Move i k c) ≡ verdict_of geo img a → Moves i k c
   told_move i k c v = by (in_order (rename_stages geo img a)) refl
     where
       passed : in_order (rename_stages geo img a) ≡ got (tt {0}) → (t : Bool) → same a ≡ t → Moves i k c
       passed h true q =
           absurd (let r = rename-passed h in
-          let x : Verdict.Move i k c ≡ Verdict.Same r.inode = v ∙ told-passed-same h q r.inode r.moved in
+          let x : ◌≡◌ {A = Result Verdict Refusal} (Ok (Verdict.Move i k c)) (Ok (Verdict.Same r.inode)) = v ∙ told-passed-same h q r.inode r.moved in
           let z : ◌≡◌ {A = ℕ} 0 1 = cc in let y : ⊥ = omega arith in y)
       passed h false q =
           let r = rename-passed h in
-          let x : Verdict.Move i k c ≡ Verdict.Move r.inode (type_of (spot_of geo img r.inode).shape.mode) (a.replace && is_there (facts_of geo img a).way) = v ∙ told-passed-apart h q r.inode r.moved in
+          let x : ◌≡◌ {A = Result Verdict Refusal} (Ok (Verdict.Move i k c)) (Ok (Verdict.Move r.inode (type_of (spot_of geo img r.inode).shape.mode) (a.replace && is_there (facts_of geo img a).way))) = v ∙ told-passed-apart h q r.inode r.moved in
           let y : r.inode ≡ i = cc in
           let w : k ≡ type_of (spot_of geo img r.inode).shape.mode = cc in
           let d : c ≡ (a.replace && is_there (facts_of geo img a).way) = cc in
@@ -148,4 +149,4 @@ module _ (geo : Geometry) (img : List ℕ) (a : Asked) where
 
       by : (o : Out (Unit {0})) → in_order (rename_stages geo img a) ≡ o → Moves i k c
       by (got u) h = passed h (same a) refl
-      by (refused f) h = absurd (let x : Verdict.Move i k c ≡ Verdict.No f = v ∙ sym (stopped geo img a f h) in let z : ◌≡◌ {A = ℕ} 0 1 = cc in let y : ⊥ = omega arith in y)
+      by (refused f) h = absurd (let x : ◌≡◌ {A = Result Verdict Refusal} (Ok (Verdict.Move i k c)) (Err f) = v ∙ sym (stopped geo img a f h) in let z : ◌≡◌ {A = ℕ} 0 1 = cc in let y : ⊥ = omega arith in y)

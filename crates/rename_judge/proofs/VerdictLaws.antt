@@ -1,4 +1,5 @@
 -- Laws of what rename is told: 01's order of the stages, and the same behind the names and the numbers. Assumes nothing.
+use Rattle.std.specs.Prelude.{Result, Err}
 use mathlib.Core.Path.{◌≡◌, refl, sym, ap, ◌∙◌}
 use mathlib.Core.Bool.{Bool, true, false, ◌&&◌}
 use mathlib.Core.List.{List}
@@ -14,9 +15,6 @@ use Rattle.inode_run.specs.declared.Spot.{Spot}
 use Rattle.inode_run.specs.Judge.{ask}
 use Rattle.inode_run.specs.Find.{number_ok, spot_of}
 use Rattle.inode_run.proofs.FindLaws.{number-is}
-use Rattle.inode_grow.specs.declared.Growth.{Growth}
-use Rattle.inode_grow.specs.declared.Growth.TheVariants as Growth
-use Rattle.inode_grow.specs.Grow.{growth_out}
 use Rattle.stages.specs.Stages.{Stages, in_order, both_out}
 use Rattle.stages.proofs.StagesLaws.{Ready, at_names, at-lengths, at-numbers, at-inodes, at-dirs, at-files, at-kinds, at-walk, at_target, at-empty, at-links, at-ends, at-tails, both_first, both_then}
 use Rattle.dirnames.specs.Names.{taken, short}
@@ -27,11 +25,11 @@ use Rattle.rename_judge.specs.Rename.{Asked, same, inode_in, Facts, facts_in, fa
 
 -- ---- one call's answer after another's
 
-pub verdict_free : (o : Out (Unit {0})) (v r : Verdict) (g : Growth) → growth_out g ≡ o → g ≡ Growth.Free → r ≡ v → r ≡ verdict_by o v
-verdict_free o v r g p e q = q ∙ ap (λ (x : Out (Unit {0})). verdict_by x v) (sym (ap growth_out e) ∙ p)
+pub verdict_free : (o : Out (Unit {0})) (v r : Result Verdict Refusal) → got (tt {0}) ≡ o → r ≡ v → r ≡ verdict_by o v
+verdict_free o v r p q = q ∙ ap (λ (x : Out (Unit {0})). verdict_by x v) p
 
-pub verdict_no : (o : Out (Unit {0})) (v : Verdict) (g : Growth) (e : Refusal) → growth_out g ≡ o → g ≡ Growth.No e → Verdict.No e ≡ verdict_by o v
-verdict_no o v g e p q = ap (λ (x : Out (Unit {0})). verdict_by x v) (sym (ap growth_out q) ∙ p)
+pub verdict_no : (o : Out (Unit {0})) (v r : Result Verdict Refusal) (e : Refusal) → r ≡ Err e → refused e ≡ o → r ≡ verdict_by o v
+verdict_no o v r e q p = q ∙ ap (λ (x : Out (Unit {0})). verdict_by x v) p
 
 -- ---- the stages behind the names and the numbers
 
@@ -102,28 +100,28 @@ module _ (geo : Geometry) (img : List ℕ) (a : Asked) where
       by true = refl
       by false = refl
 
-  pub stopped : (e : Refusal) → in_order (rename_stages geo img a) ≡ refused e → Verdict.No e ≡ verdict_of geo img a
+  pub stopped : (e : Refusal) → in_order (rename_stages geo img a) ≡ refused e → Err e ≡ verdict_of geo img a
   unfolding verdict_of
   stopped e h = rw h
 
   pub order-names : (taken true a.new && taken true a.old) ≡ false → in_order (rename_stages geo img a) ≡ refused Invalid
   order-names h = at_names (rename_stages geo img a) (stages-names ∙ h)
 
-  pub stop-names : (taken true a.new && taken true a.old) ≡ false → Verdict.No Invalid ≡ verdict_of geo img a
+  pub stop-names : (taken true a.new && taken true a.old) ≡ false → Err Invalid ≡ verdict_of geo img a
   stop-names h = stopped Invalid (order-names h)
 
   module _ (n : (taken true a.new && taken true a.old) ≡ true) where
     pub order-lengths : (short a.new && short a.old) ≡ false → in_order (rename_stages geo img a) ≡ refused NameTooLong
     order-lengths h = at-lengths (rename_stages geo img a) (stages-names ∙ n) (stages-lengths ∙ h)
 
-    pub stop-lengths : (short a.new && short a.old) ≡ false → Verdict.No NameTooLong ≡ verdict_of geo img a
+    pub stop-lengths : (short a.new && short a.old) ≡ false → Err NameTooLong ≡ verdict_of geo img a
     stop-lengths h = stopped NameTooLong (order-lengths h)
 
     module _ (l : (short a.new && short a.old) ≡ true) where
       pub order-numbers : (number_ok geo a.from && number_ok geo a.to) ≡ false → in_order (rename_stages geo img a) ≡ refused Invalid
       order-numbers h = at-numbers (rename_stages geo img a) (stages-names ∙ n) (stages-lengths ∙ l) (stages-numbers ∙ h)
 
-      pub stop-numbers : (number_ok geo a.from && number_ok geo a.to) ≡ false → Verdict.No Invalid ≡ verdict_of geo img a
+      pub stop-numbers : (number_ok geo a.from && number_ok geo a.to) ≡ false → Err Invalid ≡ verdict_of geo img a
       stop-numbers h = stopped Invalid (order-numbers h)
 
       module _ (u : (number_ok geo a.from && number_ok geo a.to) ≡ true) where
@@ -147,7 +145,7 @@ module _ (geo : Geometry) (img : List ℕ) (a : Asked) where
         unfolding rename_stages
         order-moving t = rw t moving-rest
 
-        pub goes_on : (r : Verdict) → r ≡ verdict_in geo img a → r ≡ verdict_of geo img a
+        pub goes_on : (r : Result Verdict Refusal) → r ≡ verdict_in geo img a → r ≡ verdict_of geo img a
         unfolding verdict_in verdict_of rename_stages
         goes_on r h = h ∙ by (same a)
           where
@@ -162,11 +160,11 @@ module _ (geo : Geometry) (img : List ℕ) (a : Asked) where
 -- ---- the directories and the file, as they are found
 
 module _ (geo : Geometry) (img : List ℕ) (a : Asked) (to from : Spot) (p : to ≡ spot_of geo img a.to) (q : from ≡ spot_of geo img a.from) where
-  pub in-same : (x : Sought ℕ) → x ≡ inode_in geo img from a.old → same a ≡ true → (r : Verdict) → r ≡ verdict_by (own_out geo img to from x) (same_of x) → r ≡ verdict_in geo img a
+  pub in-same : (x : Sought ℕ) → x ≡ inode_in geo img from a.old → same a ≡ true → (r : Result Verdict Refusal) → r ≡ verdict_by (own_out geo img to from x) (same_of x) → r ≡ verdict_in geo img a
   unfolding verdict_in facts_in
   in-same x h t r e = rw (t, ← q, ← p, ← h) e
 
-  pub in-moving : (n : ℕ) → n ≡ length a.new → (f : Facts) → f ≡ facts_in geo img to from a.new a.old a.replace → same a ≡ false → (r : Verdict)
+  pub in-moving : (n : ℕ) → n ≡ length a.new → (f : Facts) → f ≡ facts_in geo img to from a.new a.old a.replace → same a ≡ false → (r : Result Verdict Refusal)
       → r ≡ verdict_by (moving_out geo img a.to a.from to from n a.replace f) (move_of geo img (a.replace && is_there f.way) f.moved) → r ≡ verdict_in geo img a
   unfolding verdict_in
   in-moving n l f h t r e = rw (t, ← q, ← p, ← h, ← l) e

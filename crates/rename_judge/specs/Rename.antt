@@ -1,11 +1,9 @@
 -- 01: what rename is judged by before any store: "each is judged for every step the call would make, found inodes included, on what that step would meet". Assumes nothing: these are definitions.
-use Rattle.std.specs.Prelude.{◌≡◌, Bool, true, false, not, ◌&&◌, ◌||◌, List, ℕ, ◌-◌, ◌/◌, ◌%◌, ◌≤◌, length, eqb, ltb}
+use Rattle.std.specs.Prelude.{◌≡◌, Bool, true, false, not, ◌&&◌, ◌||◌, List, ℕ, ◌-◌, ◌/◌, ◌%◌, ◌≤◌, length, eqb, ltb, Option, Some, None, Result, Ok, Err}
 use Rattle.refusal.specs.declared.Refusal.TheVariants.{Invalid, Damaged, NotDirectory, IsDirectory, TooManyLinks, NotSupported}
 use Rattle.store.specs.Act.{Out, got, refused}
 use Rattle.volume.specs.declared.Geometry.{Geometry}
 use Rattle.volume.specs.Volume.{inode_at}
-use Rattle.inode.specs.declared.Kind.{Kind}
-use Rattle.inode.specs.declared.Kind.TheVariants.{Is, Nameless}
 use Rattle.inode.specs.Shape.{type_of, is_dir}
 use Rattle.inode.specs.Kind.{kind_of}
 use Rattle.inode.specs.Places.{nlink_at}
@@ -26,6 +24,8 @@ use Rattle.unlink_judge.specs.Unlink.{there_out, hit_where, on_hit, in_dir_only,
 use Rattle.rename_judge.specs.declared.Met.{Met}
 use Rattle.rename_judge.specs.declared.Verdict.{Verdict}
 use Rattle.rename_judge.specs.declared.Verdict.TheVariants as Verdict
+use Rattle.inode.specs.declared.InodeType.{InodeType}
+use Rattle.refusal.specs.declared.Refusal.{Refusal}
 
 -- ---- what the call finds
 
@@ -85,9 +85,9 @@ links_of geo img i = nlink_at geo.order (inode_at geo i) img
 abbrev pub is_file : Geometry → List ℕ → ℕ → Bool
 is_file geo img i = not (is_dir (spot_of geo img i).shape)
 
-abbrev pub is_named : Kind → Bool
-is_named (Is k) = true
-is_named Nameless = false
+abbrev pub is_named : Option InodeType → Bool
+is_named (Some k) = true
+is_named None = false
 
 abbrev pub has_kind : Geometry → List ℕ → ℕ → Bool
 has_kind geo img i = is_named (kind_of (type_of (spot_of geo img i).shape.mode))
@@ -298,31 +298,31 @@ InWay nowhere way = Unit {0}
 InWay hurt way = Unit {0}
 
 -- an inode that passed: both names are the same, or it is to be moved
-abbrev pub same_of : Sought ℕ → Verdict
-same_of (here i) = Verdict.Same i
-same_of nowhere = Verdict.No Damaged
-same_of hurt = Verdict.No Damaged
+abbrev pub same_of : Sought ℕ → Result Verdict Refusal
+same_of (here i) = Ok (Verdict.Same i)
+same_of nowhere = Err Damaged
+same_of hurt = Err Damaged
 
-abbrev pub move_of : Geometry → List ℕ → Bool → Sought ℕ → Verdict
-move_of geo img clears (here i) = Verdict.Move i (type_of (spot_of geo img i).shape.mode) clears
-move_of geo img clears nowhere = Verdict.No Damaged
-move_of geo img clears hurt = Verdict.No Damaged
+abbrev pub move_of : Geometry → List ℕ → Bool → Sought ℕ → Result Verdict Refusal
+move_of geo img clears (here i) = Ok (Verdict.Move i (type_of (spot_of geo img i).shape.mode) clears)
+move_of geo img clears nowhere = Err Damaged
+move_of geo img clears hurt = Err Damaged
 
-abbrev pub verdict_by : Out (Unit {0}) → Verdict → Verdict
+abbrev pub verdict_by : Out (Unit {0}) → Result Verdict Refusal → Result Verdict Refusal
 verdict_by (got x) v = v
-verdict_by (refused e) v = Verdict.No e
+verdict_by (refused e) v = Err e
 
-abbrev pub either_verdict : Bool → Verdict → Verdict → Verdict
+abbrev pub either_verdict : Bool → Result Verdict Refusal → Result Verdict Refusal → Result Verdict Refusal
 either_verdict true v w = v
 either_verdict false v w = w
 
-unfoldable pub verdict_of : Geometry → List ℕ → Asked → Verdict
+unfoldable pub verdict_of : Geometry → List ℕ → Asked → Result Verdict Refusal
 verdict_of geo img a =
     verdict_by (in_order (rename_stages geo img a))
     (either_verdict (same a) (same_of (facts_of geo img a).moved) (move_of geo img (a.replace && is_there (facts_of geo img a).way) (facts_of geo img a).moved))
 
 -- the same, where the names and the numbers are such as the call takes
-unfoldable pub verdict_in : Geometry → List ℕ → Asked → Verdict
+unfoldable pub verdict_in : Geometry → List ℕ → Asked → Result Verdict Refusal
 verdict_in geo img a =
     either_verdict (same a)
     (verdict_by (own_out geo img (spot_of geo img a.to) (spot_of geo img a.from) (facts_of geo img a).moved) (same_of (facts_of geo img a).moved))

@@ -8,9 +8,10 @@ ghost use Rattle.unlink_judge.specs.Unlink.{hit_where, found_ok};
 ghost use Rattle.rename_judge.specs.Rename.{inode_in, record_in, inode_of_hit, facts_in, met_facts, links_of, is_file, has_kind, hit_ok, freed_first, not_freed, own_ok, others_ok, InWay};
 
 use crate::Met;
-use dirwalk::{Looked, Seen};
-use inode::{Kind, Shape};
+use dirwalk::Hit;
+use inode::Shape;
 use inode_run::Spot;
+use refusal::Damage;
 use volume::{Geometry, InodeNum};
 
 // ---- finding
@@ -46,7 +47,7 @@ pub fn links_of(img: &[u8], geo: Geometry, inr: u32) -> u16
 }
 
 // A name as lookup finds it.
-pub fn inode_in(img: &[u8], geo: Geometry, s: Spot, name: &[u8]) -> Looked
+pub fn inode_in(img: &[u8], geo: Geometry, s: Spot, name: &[u8]) -> Result<Option<u32>, Damage>
     requires { Frame geo img.now × (s.at + 256 ≤ length img.now) }
     ensures { looked_out result ≡ inode_in geo img.now s name.now }
 {
@@ -54,11 +55,11 @@ pub fn inode_in(img: &[u8], geo: Geometry, s: Spot, name: &[u8]) -> Looked
     if inode::is_dir(shape) {
         return dirwalk::lookup_dir(img, geo, s.at, shape.size, name);
     }
-    Looked::Absent
+    Ok(None)
 }
 
 // The record of that name, whiteouts too.
-fn record_in(img: &[u8], geo: Geometry, s: Spot, name: &[u8]) -> Seen
+fn record_in(img: &[u8], geo: Geometry, s: Spot, name: &[u8]) -> Result<Option<Hit>, Damage>
     requires { Frame geo img.now × (s.at + 256 ≤ length img.now) }
     ensures { seen_out result ≡ record_in geo img.now s name.now }
 {
@@ -66,17 +67,13 @@ fn record_in(img: &[u8], geo: Geometry, s: Spot, name: &[u8]) -> Seen
     if inode::is_dir(shape) {
         return dirwalk::find_dir(img, geo, s.at, shape.size, name);
     }
-    Seen::Absent
+    Ok(None)
 }
 
-fn inode_of(s: Seen) -> Looked
+fn inode_of(s: Result<Option<Hit>, Damage>) -> Result<Option<u32>, Damage>
     ensures { looked_out result ≡ inode_of_hit (seen_out s) }
 {
-    match s {
-        Seen::At(h) => Looked::At(h.inr),
-        Seen::Absent => Looked::Absent,
-        Seen::Bad => Looked::Bad,
-    }
+    Ok(s?.map(|h| h.inr))
 }
 
 // The old record, and what has the new name: the Rust looked it up in the source directory.
@@ -88,7 +85,7 @@ pub fn meet(
     dname: &[u8],
     sname: &[u8],
     replace: bool,
-    moved: Looked,
+    moved: Result<Option<u32>, Damage>,
 ) -> Met
     requires { Frame geo img.now × (to.at + 256 ≤ length img.now) × (from.at + 256 ≤ length img.now) × (looked_out moved ≡ inode_in geo img.now from sname.now) }
     ensures { met_facts result ≡ facts_in geo img.now to from dname.now sname.now replace }
@@ -104,7 +101,7 @@ pub fn meet(
             way: way,
         };
     }
-    let none = Seen::Absent;
+    let none = Ok(None);
     let way = inode_in(img, geo, to, dname);
     Met {
         moved: moved,
@@ -123,30 +120,34 @@ fn is_typed(s: Shape) -> bool
 }
 
 // Whether an inode that lookup found is one of the volume's and has a type.
-fn where_ok(img: &[u8], geo: Geometry, l: Looked) -> bool
+fn where_ok(img: &[u8], geo: Geometry, l: Result<Option<u32>, Damage>) -> bool
     requires { Frame geo img.now }
     ensures { result ≡ hit_where (looked_out l) (found_ok geo img.now) }
 {
-    match l {
-        Looked::At(i) => unlink_judge::found_ok(img, geo, i),
-        Looked::Absent => true,
-        Looked::Bad => true,
-    }
+    let Ok(Some(i)) = l else {
+        return true;
+    };
+    unlink_judge::found_ok(img, geo, i)
 }
 
 // The same of the inode of a record.
-fn hit_ok(img: &[u8], geo: Geometry, s: Seen) -> bool
+fn hit_ok(img: &[u8], geo: Geometry, s: Result<Option<Hit>, Damage>) -> bool
     requires { Frame geo img.now }
     ensures { result ≡ hit_where (seen_out s) (hit_ok geo img.now) }
 {
-    match s {
-        Seen::At(h) => unlink_judge::found_ok(img, geo, h.inr),
-        Seen::Absent => true,
-        Seen::Bad => true,
-    }
+    let Ok(Some(h)) = s else {
+        return true;
+    };
+    unlink_judge::found_ok(img, geo, h.inr)
 }
 
-pub fn own_ok(img: &[u8], geo: Geometry, to: Spot, from: Spot, moved: Looked) -> bool
+pub fn own_ok(
+    img: &[u8],
+    geo: Geometry,
+    to: Spot,
+    from: Spot,
+    moved: Result<Option<u32>, Damage>,
+) -> bool
     requires { Frame geo img.now }
     ensures { result ≡ own_ok geo img.now to from (looked_out moved) }
 {
@@ -180,34 +181,28 @@ fn left_for(
     from: InodeNum,
     t: u32,
     i: u32,
-    source: Seen,
+    source: Result<Option<Hit>, Damage>,
 ) -> bool
     requires { Frame geo img.now × (t < geo.ncg * geo.ipg) }
     ensures { result ≡ hit_where (seen_out source) (λ w. not (freed_first geo img.now to.0 from.0 t i w.inr)) }
 {
-    match source {
-        Seen::At(w) => !freed_first(img, geo, to, from, t, i, w.inr),
-        Seen::Absent => true,
-        Seen::Bad => true,
-    }
+    let Ok(Some(w)) = source else {
+        return true;
+    };
+    !freed_first(img, geo, to, from, t, i, w.inr)
 }
 
 fn not_freed(img: &[u8], geo: Geometry, to: InodeNum, from: InodeNum, m: Met) -> bool
     requires { Frame geo img.now × (hit_where (seen_out m.target) (hit_ok geo img.now) ≡ true) }
     ensures { result ≡ not_freed geo img.now to.0 from.0 (met_facts m) }
 {
-    let target = m.target;
-    let moved = m.moved;
-    let source = m.source;
-    match target {
-        Seen::At(t) => match moved {
-            Looked::At(i) => left_for(img, geo, to, from, t.inr, i, source),
-            Looked::Absent => true,
-            Looked::Bad => true,
-        },
-        Seen::Absent => true,
-        Seen::Bad => true,
-    }
+    let Ok(Some(t)) = m.target else {
+        return true;
+    };
+    let Ok(Some(i)) = m.moved else {
+        return true;
+    };
+    left_for(img, geo, to, from, t.inr, i, m.source)
 }
 
 // What is asked of the other inodes where the names differ.
@@ -226,34 +221,25 @@ pub fn others_ok(img: &[u8], geo: Geometry, to: InodeNum, from: InodeNum, m: Met
 // ---- 21, and a kind that has no name
 
 // Whether what was found is no directory.
-pub fn is_file(img: &[u8], geo: Geometry, l: Looked) -> bool
+pub fn is_file(img: &[u8], geo: Geometry, l: Result<Option<u32>, Damage>) -> bool
     requires { Frame geo img.now × (hit_where (looked_out l) (found_ok geo img.now) ≡ true) }
     ensures { result ≡ hit_where (looked_out l) (is_file geo img.now) }
 {
-    match l {
-        Looked::At(i) => {
-            let s = spot_at(img, geo, InodeNum(i));
-            !inode::is_dir(s.shape)
-        }
-        Looked::Absent => true,
-        Looked::Bad => true,
-    }
+    let Ok(Some(i)) = l else {
+        return true;
+    };
+    let s = spot_at(img, geo, InodeNum(i));
+    !inode::is_dir(s.shape)
 }
 
-pub fn has_kind(img: &[u8], geo: Geometry, l: Looked) -> bool
+pub fn has_kind(img: &[u8], geo: Geometry, l: Result<Option<u32>, Damage>) -> bool
     requires { Frame geo img.now × (hit_where (looked_out l) (found_ok geo img.now) ≡ true) }
     ensures { result ≡ hit_where (looked_out l) (has_kind geo img.now) }
 {
-    match l {
-        Looked::At(i) => {
-            let s = spot_at(img, geo, InodeNum(i));
-            let shape = s.shape;
-            match inode::kind_of(shape.mode) {
-                Kind::Is(k) => true,
-                Kind::Nameless => false,
-            }
-        }
-        Looked::Absent => true,
-        Looked::Bad => true,
-    }
+    let Ok(Some(i)) = l else {
+        return true;
+    };
+    let s = spot_at(img, geo, InodeNum(i));
+    let shape = s.shape;
+    inode::kind_of(shape.mode).is_some()
 }

@@ -9,10 +9,9 @@ ghost use Rattle.dirwalk.specs.Walk.{looked_out, seen_out};
 ghost use Rattle.unlink_judge.specs.Unlink.{hit_where, found_ok};
 ghost use Rattle.rename_judge.specs.Rename.{met_facts, hit_ok, late_out, own_out, moving_out, is_there, Holds, InWay, same_of, move_of, verdict_by, verdict_in, verdict_of};
 
-use dirwalk::{Looked, Seen};
-use inode_grow::Growth;
+use dirwalk::Hit;
 use inode_run::Spot;
-use refusal::Refusal;
+use refusal::{Damage, Refusal};
 use volume::{Geometry, InodeNum};
 
 pub mod counts;
@@ -24,58 +23,62 @@ pub mod room;
 pub enum Verdict {
     Same(u32),
     Move(u32, u8, bool),
-    No(Refusal),
 }
 
 // What the call finds: the file by its old name, the record of that name, with replace the record in the way, and the inode in the way.
 #[derive(Clone, Copy)]
 pub struct Met {
-    pub moved: Looked,
-    pub source: Seen,
-    pub target: Seen,
-    pub way: Looked,
+    pub moved: Result<Option<u32>, Damage>,
+    pub source: Result<Option<Hit>, Damage>,
+    pub target: Result<Option<Hit>, Damage>,
+    pub way: Result<Option<u32>, Damage>,
 }
 
 // ---- all of it
 
 // From the walk on.
-fn judge_late(img: &[u8], geo: Geometry, to: Spot, old: u64, n: u8, replace: bool, m: Met) -> Growth
+fn judge_late(
+    img: &[u8],
+    geo: Geometry,
+    to: Spot,
+    old: u64,
+    n: u8,
+    replace: bool,
+    m: Met,
+) -> Result<(), Refusal>
     requires { Frame geo img.now × (to.at + 256 ≤ length img.now) × Holds to.shape.size (seen_out m.target) × Holds old (seen_out m.source) × (hit_where (looked_out m.moved) (found_ok geo img.now) ≡ true) × (hit_where (seen_out m.source) (hit_ok geo img.now) ≡ true) × (hit_where (seen_out m.target) (hit_ok geo img.now) ≡ true) }
     ensures { growth_out result ≡ late_out geo img.now to old n replace (met_facts m) }
 {
-    let source = m.source;
-    let target = m.target;
-    let way = m.way;
-    match crate::counts::walk_out(m) {
-        Growth::Free => match crate::counts::is_untaken(replace, way) {
-            Growth::Free => match crate::counts::counts_out(img, geo, m) {
-                Growth::Free => crate::room::room_out(img, geo, to, old, n, source, target),
-                Growth::No(e) => Growth::No(e),
-            },
-            Growth::No(e) => Growth::No(e),
-        },
-        Growth::No(e) => Growth::No(e),
-    }
+    crate::counts::walk_out(m)?;
+    crate::counts::is_untaken(replace, m.way)?;
+    crate::counts::counts_out(img, geo, m)?;
+    crate::room::room_out(img, geo, to, old, n, m.source, m.target)
 }
 
 // All that is asked where both names are the same.
-fn judge_own(img: &[u8], geo: Geometry, to: Spot, from: Spot, moved: Looked) -> Growth
+fn judge_own(
+    img: &[u8],
+    geo: Geometry,
+    to: Spot,
+    from: Spot,
+    moved: Result<Option<u32>, Damage>,
+) -> Result<(), Refusal>
     requires { Frame geo img.now }
     ensures { growth_out result ≡ own_out geo img.now to from (looked_out moved) }
 {
     let one = from.shape;
     let other = to.shape;
     if !crate::found::own_ok(img, geo, to, from, moved) {
-        return Growth::No(Refusal::Invalid);
+        return Err(Refusal::Invalid);
     }
     if !(inode::is_dir(one) & inode::is_dir(other)) {
-        return Growth::No(Refusal::NotDirectory);
+        return Err(Refusal::NotDirectory);
     }
     if !crate::found::is_file(img, geo, moved) {
-        return Growth::No(Refusal::IsDirectory);
+        return Err(Refusal::IsDirectory);
     }
     if !crate::found::has_kind(img, geo, moved) {
-        return Growth::No(Refusal::Damaged);
+        return Err(Refusal::Damaged);
     }
     crate::counts::there(moved)
 }
@@ -91,7 +94,7 @@ fn judge_moving(
     n: u8,
     replace: bool,
     m: Met,
-) -> Growth
+) -> Result<(), Refusal>
     requires { Frame geo img.now × (to.at + 256 ≤ length img.now) × Holds to.shape.size (seen_out m.target) × Holds from.shape.size (seen_out m.source) × InWay (seen_out m.target) (looked_out m.way) }
     ensures { growth_out result ≡ moving_out geo img.now ddinr.0 sdinr.0 to from n replace (met_facts m) }
 {
@@ -102,40 +105,33 @@ fn judge_moving(
     if !(crate::found::own_ok(img, geo, to, from, moved)
         & crate::found::others_ok(img, geo, ddinr, sdinr, m))
     {
-        return Growth::No(Refusal::Invalid);
+        return Err(Refusal::Invalid);
     }
     let dirs = inode::is_dir(old) & inode::is_dir(new);
     let files = crate::found::is_file(img, geo, moved) & crate::found::is_file(img, geo, way);
     if !dirs {
-        return Growth::No(Refusal::NotDirectory);
+        return Err(Refusal::NotDirectory);
     }
     if !files {
-        return Growth::No(Refusal::IsDirectory);
+        return Err(Refusal::IsDirectory);
     }
     if !crate::found::has_kind(img, geo, moved) {
-        return Growth::No(Refusal::Damaged);
+        return Err(Refusal::Damaged);
     }
     judge_late(img, geo, to, old.size, n, replace, m)
 }
 
-fn is_there(l: Looked) -> bool
+fn is_there(l: Result<Option<u32>, Damage>) -> bool
     ensures { result ≡ is_there (looked_out l) }
 {
-    match l {
-        Looked::At(i) => true,
-        Looked::Absent => false,
-        Looked::Bad => false,
-    }
+    matches!(l, Ok(Some(_)))
 }
 
-fn same_verdict(moved: Looked) -> Verdict
+fn same_verdict(moved: Result<Option<u32>, Damage>) -> Result<Verdict, Refusal>
     ensures { result ≡ same_of (looked_out moved) }
 {
-    match moved {
-        Looked::At(i) => Verdict::Same(i),
-        Looked::Absent => Verdict::No(Refusal::Damaged),
-        Looked::Bad => Verdict::No(Refusal::Damaged),
-    }
+    let i = moved?.ok_or(Refusal::Damaged)?;
+    Ok(Verdict::Same(i))
 }
 
 // The kind, as a directory record has it.
@@ -145,30 +141,34 @@ fn type_byte(mode: u16) -> u8
     (mode / 4096) as u8
 }
 
-fn move_verdict(img: &[u8], geo: Geometry, clears: bool, moved: Looked) -> Verdict
+fn move_verdict(
+    img: &[u8],
+    geo: Geometry,
+    clears: bool,
+    moved: Result<Option<u32>, Damage>,
+) -> Result<Verdict, Refusal>
     requires { Frame geo img.now × (hit_where (looked_out moved) (found_ok geo img.now) ≡ true) }
     ensures { result ≡ move_of geo img.now clears (looked_out moved) }
 {
-    match moved {
-        Looked::At(i) => {
-            let s = crate::found::spot_at(img, geo, InodeNum(i));
-            let shape = s.shape;
-            Verdict::Move(i, type_byte(shape.mode), clears)
-        }
-        Looked::Absent => Verdict::No(Refusal::Damaged),
-        Looked::Bad => Verdict::No(Refusal::Damaged),
-    }
+    let i = moved?.ok_or(Refusal::Damaged)?;
+    let s = crate::found::spot_at(img, geo, InodeNum(i));
+    let shape = s.shape;
+    Ok(Verdict::Move(i, type_byte(shape.mode), clears))
 }
 
 // Both names are the same: nothing else is looked at.
-fn judge_same(img: &[u8], geo: Geometry, to: Spot, from: Spot, moved: Looked) -> Verdict
+fn judge_same(
+    img: &[u8],
+    geo: Geometry,
+    to: Spot,
+    from: Spot,
+    moved: Result<Option<u32>, Damage>,
+) -> Result<Verdict, Refusal>
     requires { Frame geo img.now }
     ensures { result ≡ verdict_by (own_out geo img.now to from (looked_out moved)) (same_of (looked_out moved)) }
 {
-    match judge_own(img, geo, to, from, moved) {
-        Growth::Free => same_verdict(moved),
-        Growth::No(e) => Verdict::No(e),
-    }
+    judge_own(img, geo, to, from, moved)?;
+    same_verdict(moved)
 }
 
 // What was met is judged, and then told.
@@ -182,16 +182,12 @@ fn judge_met(
     n: u8,
     replace: bool,
     m: Met,
-) -> Verdict
+) -> Result<Verdict, Refusal>
     requires { Frame geo img.now × (to.at + 256 ≤ length img.now) × Holds to.shape.size (seen_out m.target) × Holds from.shape.size (seen_out m.source) × InWay (seen_out m.target) (looked_out m.way) }
     ensures { result ≡ verdict_by (moving_out geo img.now ddinr.0 sdinr.0 to from n replace (met_facts m)) (move_of geo img.now (replace && is_there (looked_out m.way)) (looked_out m.moved)) }
 {
-    let moved = m.moved;
-    let way = m.way;
-    match judge_moving(img, geo, ddinr, sdinr, to, from, n, replace, m) {
-        Growth::Free => move_verdict(img, geo, replace & is_there(way), moved),
-        Growth::No(e) => Verdict::No(e),
-    }
+    judge_moving(img, geo, ddinr, sdinr, to, from, n, replace, m)?;
+    move_verdict(img, geo, replace & is_there(m.way), m.moved)
 }
 
 // The numbers are the volume's: both directories are found, and the file by its old name.
@@ -203,7 +199,7 @@ fn judge_in(
     sdinr: InodeNum,
     sname: &[u8],
     replace: bool,
-) -> Verdict
+) -> Result<Verdict, Refusal>
     requires { Frame geo img.now × (ddinr.0 < geo.ncg * geo.ipg) × (sdinr.0 < geo.ncg * geo.ipg) × (length dname.now < 256) }
     ensures { result ≡ verdict_in geo img.now (record { to = ddinr.0; new = dname.now; from = sdinr.0; old = sname.now; replace = replace }) }
 {
@@ -236,18 +232,18 @@ pub fn judge_rename(
     sdinr: InodeNum,
     sname: &[u8],
     replace: bool,
-) -> Verdict
+) -> Result<Verdict, Refusal>
     requires { Frame geo img.now }
     ensures { result ≡ verdict_of geo img.now (record { to = ddinr.0; new = dname.now; from = sdinr.0; old = sname.now; replace = replace }) }
 {
     if !(dirnames::is_taken(dname, true) & dirnames::is_taken(sname, true)) {
-        return Verdict::No(Refusal::Invalid);
+        return Err(Refusal::Invalid);
     }
     if !(dirnames::is_short(dname) & dirnames::is_short(sname)) {
-        return Verdict::No(Refusal::NameTooLong);
+        return Err(Refusal::NameTooLong);
     }
     if !(inode_run::number_ok(geo, sdinr) & inode_run::number_ok(geo, ddinr)) {
-        return Verdict::No(Refusal::Invalid);
+        return Err(Refusal::Invalid);
     }
     judge_in(img, geo, ddinr, dname, sdinr, sname, replace)
 }

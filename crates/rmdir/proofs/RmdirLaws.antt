@@ -1,4 +1,5 @@
 -- Laws of a directory taken away: what each step leaves, case by case. Assumes nothing.
+use Rattle.std.specs.Prelude.{Result, Ok, Err}
 use mathlib.Core.Path.{◌≡◌, refl, sym, ap, ◌∙◌}
 use mathlib.Core.Bool.{true, false}
 use mathlib.Core.List.{List}
@@ -9,7 +10,6 @@ use Rattle.store.specs.Act.{Out, got, refused, Left, leaves}
 use Rattle.store.proofs.ActLaws.{step-good, step-bad, leaves-refuse}
 use Rattle.volume.specs.declared.Geometry.{Geometry}
 use Rattle.volume.specs.declared.Volume.{Volume}
-use Rattle.sound.specs.declared.Taken.TheVariants.{Sound, Unsound}
 use Rattle.sound.specs.Test.{taken_of}
 use Rattle.dircall.proofs.CallLaws.{call-unsound, call-read-only, call-taken}
 use Rattle.books.proofs.KeepLaws.{Keeps, keeps-bind}
@@ -20,10 +20,9 @@ use Rattle.dirlink.specs.Link.{unlink_name}
 use Rattle.dirlink.proofs.LinkKeeps.{keeps-unlink-name}
 use Rattle.dirtake.specs.Take.{take_name}
 use Rattle.dirtake.proofs.TakeLaws.{keeps-take-name}
-use Rattle.rmdir_judge.specs.declared.Removal.{Removal}
-use Rattle.rmdir_judge.specs.declared.Removal.TheVariants as Removal
 use Rattle.rmdir_judge.specs.Rmdir.{dot, dotdot, gone_in, rmdir_stages, removal_of}
 use Rattle.rmdir.specs.Rmdir.{own_gone, emptied, remove_dir, removing, rmdir_for, rmdir_call}
+use Rattle.refusal.specs.Refusal.{damage}
 
 -- ---- the work
 
@@ -70,21 +69,21 @@ module _ (geo : Geometry) (i : ℕ) where
 
 -- ---- the call
 
-module _ (geo : Geometry) (d : ℕ) (name img : List ℕ) {r : Removal} (q : r ≡ removal_of (gone_in geo img d name) (in_order (rmdir_stages geo img d name))) where
-  pub judged-dir : {i : ℕ} → r ≡ Removal.Dir i → leaves (remove_dir geo d name i) img ≡ leaves (rmdir_for d name geo) img
+module _ (geo : Geometry) (d : ℕ) (name img : List ℕ) {r : (Result ℕ Refusal)} (q : r ≡ removal_of (gone_in geo img d name) (in_order (rmdir_stages geo img d name))) where
+  pub judged-dir : {i : ℕ} → r ≡ Ok i → leaves (remove_dir geo d name i) img ≡ leaves (rmdir_for d name geo) img
   unfolding rmdir_for leaves
   judged-dir e = rw (← q, e)
 
-  pub judged-no : {f : Refusal} → r ≡ Removal.No f → ◌≡◌ {A = Left (Unit {0})} (img, refused f) (leaves (rmdir_for d name geo) img)
+  pub judged-no : {f : Refusal} → r ≡ Err f → ◌≡◌ {A = Left (Unit {0})} (img, refused f) (leaves (rmdir_for d name geo) img)
   unfolding rmdir_for leaves
   judged-no {f} e = rw (← q, e) (leaves-refuse f img)
 
 module _ (vol : Volume) (d : ℕ) (name img : List ℕ) where
-  pub rmdir-unsound : taken_of img ≡ Unsound → ◌≡◌ {A = Left (Unit {0})} (img, refused Damaged) (leaves (rmdir_call vol d name) img)
+  pub rmdir-unsound : taken_of img ≡ Err damage → ◌≡◌ {A = Left (Unit {0})} (img, refused Damaged) (leaves (rmdir_call vol d name) img)
   unfolding rmdir_call
   rmdir-unsound e = call-unsound vol (rmdir_for d name) img e
 
-  module _ (geo : Geometry) (t : taken_of img ≡ Sound geo) where
+  module _ (geo : Geometry) (t : taken_of img ≡ Ok geo) where
     pub rmdir-read-only : vol.writable ≡ false → ◌≡◌ {A = Left (Unit {0})} (img, refused ReadOnly) (leaves (rmdir_call vol d name) img)
     unfolding rmdir_call
     rmdir-read-only w = call-read-only vol (rmdir_for d name) img geo t w

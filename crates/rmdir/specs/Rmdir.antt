@@ -1,5 +1,5 @@
 -- 01: the public call that takes an empty directory away. Assumes nothing: these are definitions.
-use Rattle.std.specs.Prelude.{List, ℕ}
+use Rattle.std.specs.Prelude.{List, ℕ, Result, Ok, Err}
 use Rattle.store.specs.Act.{Act, refuse, ◌>>◌}
 use Rattle.volume.specs.declared.Geometry.{Geometry}
 use Rattle.volume.specs.declared.Volume.{Volume}
@@ -8,9 +8,8 @@ use Rattle.dirwrite.specs.Write.{free_found}
 use Rattle.dirlink.specs.Link.{unlink_name}
 use Rattle.dirtake.specs.Take.{take_name}
 use Rattle.stages.specs.Stages.{in_order}
-use Rattle.rmdir_judge.specs.declared.Removal.{Removal}
-use Rattle.rmdir_judge.specs.declared.Removal.TheVariants as Removal
 use Rattle.rmdir_judge.specs.Rmdir.{dot, dotdot, gone_in, rmdir_stages, removal_of}
+use Rattle.refusal.specs.declared.Refusal.{Refusal}
 
 -- ---- the work
 
@@ -28,9 +27,9 @@ remove_dir geo d name i = unlink_name geo d name >> emptied geo i
 
 -- ---- the call: all that is judged is judged before any store
 
-abbrev pub removing : Geometry → ℕ → List ℕ → Removal → Act (Unit {0})
-removing geo d name (Removal.Dir i) = remove_dir geo d name i
-removing geo d name (Removal.No e) = refuse e
+abbrev pub removing : Geometry → ℕ → List ℕ → Result ℕ Refusal → Act (Unit {0})
+removing geo d name (Ok i) = remove_dir geo d name i
+removing geo d name (Err e) = refuse e
 
 unfoldable pub rmdir_for : ℕ → List ℕ → Geometry → Act (Unit {0})
 rmdir_for d name geo = λ img. removing geo d name (removal_of (gone_in geo img d name) (in_order (rmdir_stages geo img d name))) img

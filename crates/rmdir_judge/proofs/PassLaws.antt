@@ -1,4 +1,5 @@
 -- What a directory that may go stands in: every inode and record that the work will meet. Assumes nothing.
+use Rattle.std.specs.Prelude.{Ok}
 use mathlib.Core.Path.{◌≡◌, refl, sym, ap, ◌∙◌}
 use mathlib.Core.Bool.{Bool, true, false}
 use mathlib.Core.List.{List}
@@ -19,7 +20,6 @@ use Rattle.dirfile.specs.Block.{dir_of}
 use Rattle.dirfile.specs.Seek.{Sought, here, nowhere, hurt}
 use Rattle.dirwalk.specs.declared.Hit.{Hit}
 use Rattle.dirwalk.specs.Walk.{lookup_dir, find_dir}
-use Rattle.rmdir_judge.specs.declared.Removal.TheVariants as Removal
 use Rattle.rmdir_judge.specs.Rmdir.{dot, dotdot, gone_in, own_ok, rmdir_stages, hits_out, walks_out, dirs_out, found_out, gone_out, removal_of}
 use Rattle.rmdir_judge.proofs.RmdirLaws.{dirs_invalid, dirs_are, found-dirs, found_none, rmdir-bad-name, rmdir-long-name, rmdir-no-dir, rmdir-judged, gone-is}
 use Rattle.rmdir_judge.proofs.Theorems.{Leads}
@@ -42,7 +42,7 @@ pub record Removable (geo : Geometry) (img : List ℕ) (d : ℕ) (name : List �
 no_refusal : {A : Type 0} (o : Out (Unit {0})) (x : Refusal) → o ≡ got (tt {0}) → o ≡ refused x → A
 no_refusal o x g r = absurd (let z : ◌≡◌ {A = ℕ} 0 1 = cc in let y : ⊥ = omega arith in y)
 
-dir_answer : (x : Sought ℕ) (o : Out (Unit {0})) (i : ℕ) → removal_of x o ≡ Removal.Dir i → (x ≡ here i) × (o ≡ got (tt {0}))
+dir_answer : (x : Sought ℕ) (o : Out (Unit {0})) (i : ℕ) → removal_of x o ≡ Ok i → (x ≡ here i) × (o ≡ got (tt {0}))
 dir_answer (here j) (got u) i h = let q : j ≡ i = cc in (ap here q, refl)
 dir_answer (here j) (refused r) i h = absurd (let z : ◌≡◌ {A = ℕ} 0 1 = cc in let y : ⊥ = omega arith in y)
 dir_answer nowhere (got u) i h = absurd (let z : ◌≡◌ {A = ℕ} 0 1 = cc in let y : ⊥ = omega arith in y)
@@ -80,7 +80,7 @@ module _ (geo : Geometry) (img : List ℕ) (d : ℕ) (name : List ℕ) (i : ℕ)
     by-own false k h = no_refusal (dirs_out geo img s e i name) _ h (dirs_invalid geo img s e i name k)
 
   -- what the code's good answer says
-  pub removable : Frame geo img → removal_of (gone_in geo img d name) (in_order (rmdir_stages geo img d name)) ≡ Removal.Dir i → Removable geo img d name i
+  pub removable : Frame geo img → removal_of (gone_in geo img d name) (in_order (rmdir_stages geo img d name)) ≡ Ok i → Removable geo img d name i
   removable fr h = by_name (taken true name) refl
     where
       gone : gone_in geo img d name ≡ here i

@@ -1,4 +1,5 @@
 -- Laws of rmdir's tests together: what the code goes through is what the stages say, in 01's order. Assumes nothing.
+use Rattle.std.specs.Prelude.{Option, Some, None, Result, Ok, Err}
 use mathlib.Core.Path.{◌≡◌, refl, sym, ap, ◌∙◌}
 use mathlib.Core.Bool.{Bool, true, false, ◌&&◌}
 use mathlib.Core.List.{List}
@@ -22,22 +23,18 @@ use Rattle.dirfile.specs.Block.{dir_of}
 use Rattle.dirfile.specs.Seek.{Sought, here, nowhere, hurt}
 use Rattle.dirfile.proofs.BlockLaws.{dir-is, dir-named}
 use Rattle.dirwalk.specs.declared.Hit.{Hit}
-use Rattle.dirwalk.specs.declared.Looked.{Looked}
-use Rattle.dirwalk.specs.declared.Looked.TheVariants as Looked
-use Rattle.dirwalk.specs.declared.Seen.{Seen}
-use Rattle.dirwalk.specs.declared.Seen.TheVariants as Seen
 use Rattle.dirwalk.specs.Walk.{lookup_dir, find_dir, looked_out, seen_out}
 use Rattle.dirother.specs.Other.{others_dir}
 use Rattle.dirjudge.specs.Judge.{drop_end, drop_tail}
 use Rattle.dirjudge.proofs.DirLaws.{Fails, number, inode, kind, dir-fails}
 use Rattle.unlink_judge.specs.Unlink.{there_out, on_hit, in_dir_only, found_ok}
-use Rattle.rmdir_judge.specs.declared.Removal.{Removal}
-use Rattle.rmdir_judge.specs.declared.Removal.TheVariants as Removal
 use Rattle.rmdir_judge.specs.Rmdir.{dot, dotdot, gone_in, link_in, own_in, facts_of, own_ok, same_out, empty_out, counts_out, drops_out, stages_of, rmdir_stages, hits_out, walks_out, dirs_out, found_out, gone_out, removal_of}
+use Rattle.refusal.specs.Refusal.{damage}
+use Rattle.refusal.specs.declared.Damage.{Damage}
 
 -- ---- the directory that is to go, found: its inodes, then the walks
 
-module _ (geo : Geometry) (img : List ℕ) (s e : Spot) (i : ℕ) (name : List ℕ) (link up own : Seen)
+module _ (geo : Geometry) (img : List ℕ) (s e : Spot) (i : ℕ) (name : List ℕ) (link up own : Result (Option Hit) Damage)
     (el : seen_out link ≡ find_dir geo s.at s.shape.size img name) (eu : seen_out up ≡ find_dir geo e.at e.shape.size img dotdot) (eo : seen_out own ≡ find_dir geo e.at e.shape.size img dot) where
   pub dirs-no : own_ok geo img i (seen_out up) (seen_out own) ≡ false → refused Invalid ≡ dirs_out geo img s e i name
   unfolding dirs_out
@@ -48,15 +45,15 @@ module _ (geo : Geometry) (img : List ℕ) (s e : Spot) (i : ℕ) (name : List �
     unfolding dirs_out
     dirs-walks = rw (← el, ← eu, ← eo, k)
 
-    pub dirs-no-link : link ≡ Seen.Absent → refused Damaged ≡ dirs_out geo img s e i name
-    dirs-no-link l = sym (ap (λ (x : Seen). walks_out geo img s.shape.size e i (seen_out x) (seen_out up) (seen_out own)) l) ∙ dirs-walks
+    pub dirs-no-link : link ≡ Ok None → refused Damaged ≡ dirs_out geo img s e i name
+    dirs-no-link l = sym (ap (λ (x : Result (Option Hit) Damage). walks_out geo img s.shape.size e i (seen_out x) (seen_out up) (seen_out own)) l) ∙ dirs-walks
 
-    pub dirs-bad-link : link ≡ Seen.Bad → refused Damaged ≡ dirs_out geo img s e i name
-    dirs-bad-link l = sym (ap (λ (x : Seen). walks_out geo img s.shape.size e i (seen_out x) (seen_out up) (seen_out own)) l) ∙ dirs-walks
+    pub dirs-bad-link : link ≡ Err damage → refused Damaged ≡ dirs_out geo img s e i name
+    dirs-bad-link l = sym (ap (λ (x : Result (Option Hit) Damage). walks_out geo img s.shape.size e i (seen_out x) (seen_out up) (seen_out own)) l) ∙ dirs-walks
 
-    module _ (v : Hit) (l : link ≡ Seen.At v) where
+    module _ (v : Hit) (l : link ≡ Ok (Some v)) where
       walks-link : walks_out geo img s.shape.size e i (here v) (seen_out up) (seen_out own) ≡ dirs_out geo img s e i name
-      walks-link = sym (ap (λ (x : Seen). walks_out geo img s.shape.size e i (seen_out x) (seen_out up) (seen_out own)) l) ∙ dirs-walks
+      walks-link = sym (ap (λ (x : Result (Option Hit) Damage). walks_out geo img s.shape.size e i (seen_out x) (seen_out up) (seen_out own)) l) ∙ dirs-walks
 
       pub dirs-other : (v.inr ≡ i → ⊥) → refused Damaged ≡ dirs_out geo img s e i name
       dirs-other n = go (seen_out up) (seen_out own) ∙ walks-link
@@ -69,26 +66,26 @@ module _ (geo : Geometry) (img : List ℕ) (s e : Spot) (i : ℕ) (name : List �
           go hurt y = refl
 
       module _ (n : v.inr ≡ i) where
-        pub dirs-no-dots : up ≡ Seen.Absent → refused NoEntry ≡ dirs_out geo img s e i name
-        dirs-no-dots u = rw (eq-eqb v.inr i n) at (sym (ap (λ (x : Seen). walks_out geo img s.shape.size e i (here v) (seen_out x) (seen_out own)) u)) ∙ walks-link
+        pub dirs-no-dots : up ≡ Ok None → refused NoEntry ≡ dirs_out geo img s e i name
+        dirs-no-dots u = rw (eq-eqb v.inr i n) at (sym (ap (λ (x : Result (Option Hit) Damage). walks_out geo img s.shape.size e i (here v) (seen_out x) (seen_out own)) u)) ∙ walks-link
 
-        pub dirs-bad-dots : up ≡ Seen.Bad → refused Damaged ≡ dirs_out geo img s e i name
-        dirs-bad-dots u = sym (ap (λ (x : Seen). walks_out geo img s.shape.size e i (here v) (seen_out x) (seen_out own)) u) ∙ walks-link
+        pub dirs-bad-dots : up ≡ Err damage → refused Damaged ≡ dirs_out geo img s e i name
+        dirs-bad-dots u = sym (ap (λ (x : Result (Option Hit) Damage). walks_out geo img s.shape.size e i (here v) (seen_out x) (seen_out own)) u) ∙ walks-link
 
-        module _ (q : Hit) (u : up ≡ Seen.At q) where
+        module _ (q : Hit) (u : up ≡ Ok (Some q)) where
           walks-up : walks_out geo img s.shape.size e i (here v) (here q) (seen_out own) ≡ dirs_out geo img s e i name
-          walks-up = sym (ap (λ (x : Seen). walks_out geo img s.shape.size e i (here v) (seen_out x) (seen_out own)) u) ∙ walks-link
+          walks-up = sym (ap (λ (x : Result (Option Hit) Damage). walks_out geo img s.shape.size e i (here v) (seen_out x) (seen_out own)) u) ∙ walks-link
 
           walks-own : {x : Sought Hit} {r : Out (Unit {0})} → seen_out own ≡ x → r ≡ walks_out geo img s.shape.size e i (here v) (here q) x → r ≡ dirs_out geo img s e i name
           walks-own {x} {r} h t = t ∙ sym (ap (walks_out geo img s.shape.size e i (here v) (here q)) h) ∙ walks-up
 
-          pub dirs-no-dot : own ≡ Seen.Absent → refused NoEntry ≡ dirs_out geo img s e i name
+          pub dirs-no-dot : own ≡ Ok None → refused NoEntry ≡ dirs_out geo img s e i name
           dirs-no-dot o = walks-own {x = nowhere} (ap seen_out o) (rw (eq-eqb v.inr i n))
 
-          pub dirs-bad-dot : own ≡ Seen.Bad → refused Damaged ≡ dirs_out geo img s e i name
+          pub dirs-bad-dot : own ≡ Err damage → refused Damaged ≡ dirs_out geo img s e i name
           dirs-bad-dot o = walks-own {x = hurt} (ap seen_out o) refl
 
-          pub dirs-hits : (c : Hit) → own ≡ Seen.At c → (r : Out (Unit {0})) → r ≡ hits_out geo img s.shape.size e i v q c → r ≡ dirs_out geo img s e i name
+          pub dirs-hits : (c : Hit) → own ≡ Ok (Some c) → (r : Out (Unit {0})) → r ≡ hits_out geo img s.shape.size e i v q c → r ≡ dirs_out geo img s e i name
           dirs-hits c o r h = walks-own {x = here c} (ap seen_out o) (rw (eq-eqb v.inr i n) h)
 
 -- the same, of what the searches answer
@@ -116,28 +113,28 @@ module _ (geo : Geometry) (img : List ℕ) (s : Spot) (i : ℕ) (name : List ℕ
 
 -- ---- its name
 
-module _ (geo : Geometry) (img : List ℕ) (s : Spot) (name : List ℕ) (l : Looked) (el : looked_out l ≡ lookup_dir geo s.at s.shape.size img name) where
-  abbrev pub answer_in : Sought ℕ → Removal
+module _ (geo : Geometry) (img : List ℕ) (s : Spot) (name : List ℕ) (l : Result (Option ℕ) Damage) (el : looked_out l ≡ lookup_dir geo s.at s.shape.size img name) where
+  abbrev pub answer_in : Sought ℕ → Result ℕ Refusal
   answer_in x = removal_of x (gone_out geo img s name x)
 
-  in-looked : (x : Looked) → l ≡ x → answer_in (looked_out x) ≡ answer_in (lookup_dir geo s.at s.shape.size img name)
+  in-looked : (x : Result (Option ℕ) Damage) → l ≡ x → answer_in (looked_out x) ≡ answer_in (lookup_dir geo s.at s.shape.size img name)
   in-looked x h = ap answer_in (sym (ap looked_out h) ∙ el)
 
-  pub in-dir : (i : ℕ) → l ≡ Looked.At i → (r : Out (Unit {0})) → r ≡ found_out geo img s i name → r ≡ got (tt {0}) → Removal.Dir i ≡ answer_in (lookup_dir geo s.at s.shape.size img name)
-  in-dir i h r q g = ap (removal_of (here i)) (sym g ∙ q) ∙ in-looked (Looked.At i) h
+  pub in-dir : (i : ℕ) → l ≡ Ok (Some i) → (r : Out (Unit {0})) → r ≡ found_out geo img s i name → r ≡ got (tt {0}) → Ok i ≡ answer_in (lookup_dir geo s.at s.shape.size img name)
+  in-dir i h r q g = ap (removal_of (here i)) (sym g ∙ q) ∙ in-looked (Ok (Some i)) h
 
-  pub in-no : (i : ℕ) → l ≡ Looked.At i → (r : Out (Unit {0})) → r ≡ found_out geo img s i name → (x : Refusal) → r ≡ refused x → Removal.No x ≡ answer_in (lookup_dir geo s.at s.shape.size img name)
-  in-no i h r q x g = ap (removal_of (here i)) (sym g ∙ q) ∙ in-looked (Looked.At i) h
+  pub in-no : (i : ℕ) → l ≡ Ok (Some i) → (r : Out (Unit {0})) → r ≡ found_out geo img s i name → (x : Refusal) → r ≡ refused x → Err x ≡ answer_in (lookup_dir geo s.at s.shape.size img name)
+  in-no i h r q x g = ap (removal_of (here i)) (sym g ∙ q) ∙ in-looked (Ok (Some i)) h
 
-  pub in-absent : l ≡ Looked.Absent → Removal.No NoEntry ≡ answer_in (lookup_dir geo s.at s.shape.size img name)
-  in-absent h = in-looked Looked.Absent h
+  pub in-absent : l ≡ Ok None → Err NoEntry ≡ answer_in (lookup_dir geo s.at s.shape.size img name)
+  in-absent h = in-looked (Ok None) h
 
-  pub in-bad : l ≡ Looked.Bad → Removal.No Damaged ≡ answer_in (lookup_dir geo s.at s.shape.size img name)
-  in-bad h = in-looked Looked.Bad h
+  pub in-bad : l ≡ Err damage → Err Damaged ≡ answer_in (lookup_dir geo s.at s.shape.size img name)
+  in-bad h = in-looked (Err damage) h
 
 -- ---- the stages
 
-removal_no : (x : Sought ℕ) (o : Out (Unit {0})) (e : Refusal) → o ≡ refused e → Removal.No e ≡ removal_of x o
+removal_no : (x : Sought ℕ) (o : Out (Unit {0})) (e : Refusal) → o ≡ refused e → Err e ≡ removal_of x o
 removal_no (here i) o e h = rw h
 removal_no nowhere o e h = rw h
 removal_no hurt o e h = rw h
@@ -223,7 +220,7 @@ module _ (geo : Geometry) (img : List ℕ) (s : Spot) (name : List ℕ) where
 -- ---- all of it
 
 module _ (geo : Geometry) (img : List ℕ) (d : ℕ) (name : List ℕ) where
-  pub rmdir-refused : (e : Refusal) → in_order (rmdir_stages geo img d name) ≡ refused e → Removal.No e ≡ removal_of (gone_in geo img d name) (in_order (rmdir_stages geo img d name))
+  pub rmdir-refused : (e : Refusal) → in_order (rmdir_stages geo img d name) ≡ refused e → Err e ≡ removal_of (gone_in geo img d name) (in_order (rmdir_stages geo img d name))
   rmdir-refused e h = removal_no (gone_in geo img d name) (in_order (rmdir_stages geo img d name)) e h
 
   pub rmdir-bad-name : taken true name ≡ false → in_order (rmdir_stages geo img d name) ≡ refused Invalid

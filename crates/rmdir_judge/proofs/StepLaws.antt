@@ -1,4 +1,6 @@
 -- Laws of rmdir's tests one by one: the inodes of "." and "..", the counts, and the three records that go. Assumes nothing.
+use Rattle.std.specs.Prelude.{Option, Some, None, Result, Ok, Err}
+use Rattle.std.specs.Result.{result_unwrap_or}
 use mathlib.Core.Path.{◌≡◌, refl, sym, ap, ◌∙◌}
 use mathlib.Core.Bool.{Bool, true, false, not, ◌&&◌}
 use mathlib.Core.List.{List}
@@ -29,8 +31,6 @@ use Rattle.dirblock.specs.declared.Unlinked.{Unlinked}
 use Rattle.dirblock.specs.Link.{unlink_in}
 use Rattle.dirfile.specs.Block.{dir_block, read_into}
 use Rattle.dirwalk.specs.declared.Hit.{Hit}
-use Rattle.dirwalk.specs.declared.Seen.{Seen}
-use Rattle.dirwalk.specs.declared.Seen.TheVariants as Seen
 use Rattle.dirwalk.specs.Walk.{seen_out}
 use Rattle.dirother.specs.Other.{others_dir}
 use Rattle.dirjudge.specs.Judge.{drop_end, drop_tail}
@@ -38,6 +38,8 @@ use Rattle.dirjudge.proofs.JudgeLaws.{end-is, tail-is}
 use Rattle.unlink_judge.specs.Unlink.{hit_where, found_ok, fall_out}
 use Rattle.unlink_judge.proofs.UnlinkLaws.{found_number}
 use Rattle.rmdir_judge.specs.Rmdir.{dot, dotdot, falls, remains, remain_all, own_ok, empty_out, counts_out, is_alone, alone_in, own_after, size_after, drops_out, hits_out}
+use Rattle.refusal.specs.Refusal.{damage}
+use Rattle.refusal.specs.declared.Damage.{Damage}
 
 second-none : (a b : Bool) → b ≡ false → (a && b) ≡ false
 second-none true b h = h
@@ -79,15 +81,22 @@ module _ (geo : Geometry) (img : List ℕ) where
 
 -- ---- the inodes of the records found
 
-module _ (p : Hit → Bool) (x : Seen) where
-  pub hit-at : {h : Hit} → x ≡ Seen.At h → p h ≡ hit_where (seen_out x) p
+module _ (p : Hit → Bool) (x : Result (Option Hit) Damage) where
+  pub hit-at : {h : Hit} → x ≡ Ok (Some h) → p h ≡ hit_where (seen_out x) p
   hit-at e = rw e
 
-  pub hit-absent : x ≡ Seen.Absent → true ≡ hit_where (seen_out x) p
-  hit-absent e = rw e
+  -- damage is not judged here either
+  pub hit-none : result_unwrap_or x None ≡ None → true ≡ hit_where (seen_out x) p
+  hit-none e = go x e
+    where
+      go : (x : Result (Option Hit) Damage) → result_unwrap_or x None ≡ None → true ≡ hit_where (seen_out x) p
+      go (Ok (Some h)) e = absurd (let z : ◌≡◌ {A = ℕ} 0 1 = cc in let y : ⊥ = omega arith in y)
+      go (Ok None) e = refl
+      go (Err harm) e = refl
 
-  pub hit-bad : x ≡ Seen.Bad → true ≡ hit_where (seen_out x) p
-  hit-bad e = rw e
+pub unwrapped : (x : Result (Option Hit) Damage) {h : Hit} → Some h ≡ result_unwrap_or x None → x ≡ Ok (Some h)
+unwrapped (Ok o) e = ap Ok (sym e)
+unwrapped (Err harm) e = absurd (let z : ◌≡◌ {A = ℕ} 0 1 = cc in let y : ⊥ = omega arith in y)
 
 first_no : (a b : Bool) → a ≡ false → false ≡ (a && b)
 first_no a b h = rw h
@@ -102,10 +111,10 @@ module _ (geo : Geometry) (img : List ℕ) where
   abbrev pub its_ok : Hit → Bool
   its_ok h = found_ok geo img h.inr
 
-  pub hit-number : (x : Seen) {h : Hit} → x ≡ Seen.At h → hit_where (seen_out x) its_ok ≡ true → h.inr < geo.ncg * geo.ipg
+  pub hit-number : (x : Result (Option Hit) Damage) {h : Hit} → x ≡ Ok (Some h) → hit_where (seen_out x) its_ok ≡ true → h.inr < geo.ncg * geo.ipg
   hit-number x {h} e t = found_number geo img h.inr (hit-at its_ok x e ∙ t)
 
-  module _ (i : ℕ) (up own : Seen) where
+  module _ (i : ℕ) (up own : Result (Option Hit) Damage) where
     abbrev pub met_by : Hit → Hit → Bool
     met_by q c = remain_all geo img i q.inr c.inr
 
@@ -123,20 +132,14 @@ module _ (geo : Geometry) (img : List ℕ) where
         unfolding own_ok
         own-third t e = third_is _ _ _ t u o e
 
-        pub own-met : {q c : Hit} → up ≡ Seen.At q → own ≡ Seen.At c → (t : Bool) → t ≡ remain_all geo img i q.inr c.inr → t ≡ own_ok geo img i (seen_out up) (seen_out own)
+        pub own-met : {q c : Hit} → up ≡ Ok (Some q) → own ≡ Ok (Some c) → (t : Bool) → t ≡ remain_all geo img i q.inr c.inr → t ≡ own_ok geo img i (seen_out up) (seen_out own)
         own-met {q} {c} eq ec t e = own-third t (e ∙ hit-at (met_by q) own ec ∙ hit-at (λ q. hit_where (seen_out own) (met_by q)) up eq)
 
-        pub own-no-dot : {q : Hit} → up ≡ Seen.At q → own ≡ Seen.Absent → true ≡ own_ok geo img i (seen_out up) (seen_out own)
-        own-no-dot {q} eq ec = own-third true (hit-absent (met_by q) own ec ∙ hit-at (λ q. hit_where (seen_out own) (met_by q)) up eq)
+        pub own-no-dot : {q : Hit} → up ≡ Ok (Some q) → result_unwrap_or own None ≡ None → true ≡ own_ok geo img i (seen_out up) (seen_out own)
+        own-no-dot {q} eq ec = own-third true (hit-none (met_by q) own ec ∙ hit-at (λ q. hit_where (seen_out own) (met_by q)) up eq)
 
-        pub own-bad-dot : {q : Hit} → up ≡ Seen.At q → own ≡ Seen.Bad → true ≡ own_ok geo img i (seen_out up) (seen_out own)
-        own-bad-dot {q} eq ec = own-third true (hit-bad (met_by q) own ec ∙ hit-at (λ q. hit_where (seen_out own) (met_by q)) up eq)
-
-        pub own-no-dots : up ≡ Seen.Absent → true ≡ own_ok geo img i (seen_out up) (seen_out own)
-        own-no-dots eq = own-third true (hit-absent (λ q. hit_where (seen_out own) (met_by q)) up eq)
-
-        pub own-bad-dots : up ≡ Seen.Bad → true ≡ own_ok geo img i (seen_out up) (seen_out own)
-        own-bad-dots eq = own-third true (hit-bad (λ q. hit_where (seen_out own) (met_by q)) up eq)
+        pub own-no-dots : result_unwrap_or up None ≡ None → true ≡ own_ok geo img i (seen_out up) (seen_out own)
+        own-no-dots eq = own-third true (hit-none (λ q. hit_where (seen_out own) (met_by q)) up eq)
 
     -- where the test passes, both are of the volume
     pub own-numbers : own_ok geo img i (seen_out up) (seen_out own) ≡ true → (hit_where (seen_out up) its_ok ≡ true) × (hit_where (seen_out own) its_ok ≡ true)
@@ -145,10 +148,19 @@ module _ (geo : Geometry) (img : List ℕ) where
 
 -- ---- the counts
 
-pub counts-is : (geo : Geometry) (img : List ℕ) (i q c : ℕ) (a b d s r : Out (Unit {0})) → a ≡ fall_out geo img q → b ≡ fall_out geo img c → d ≡ fall_out geo img i
-    → s ≡ and_then b (λ _. d) → r ≡ and_then a (λ _. s) → r ≡ counts_out geo img i q c
-unfolding counts_out
-counts-is geo img i q c a b d s r ea eb ed es er = rw (er, es, ea, eb, ed)
+module _ (geo : Geometry) (img : List ℕ) (i q c : ℕ) where
+  pub counts-first : (z : Refusal) → refused z ≡ fall_out geo img q → refused z ≡ counts_out geo img i q c
+  unfolding counts_out
+  counts-first z h = rw (← h)
+
+  module _ (a : got (tt {0}) ≡ fall_out geo img q) where
+    pub counts-second : (z : Refusal) → refused z ≡ fall_out geo img c → refused z ≡ counts_out geo img i q c
+    unfolding counts_out
+    counts-second z h = rw (← a, ← h)
+
+    pub counts-third : got (tt {0}) ≡ fall_out geo img c → (x : Out (Unit {0})) → x ≡ fall_out geo img i → x ≡ counts_out geo img i q c
+    unfolding counts_out
+    counts-third b x h = rw (← a, ← b) h
 
 -- ---- "." in the block that ".." went from
 
@@ -156,10 +168,10 @@ module _ (o : Order) (d : Out (List ℕ)) (ok : Bool) (b : List ℕ) (e : d ≡ 
   pub alone-unread : ok ≡ false → false ≡ alone_in o d
   alone-unread h = rw (e, h)
 
-  pub alone-read : ok ≡ true → (u : Unlinked) (x : List ℕ) → (x, u) ≡ unlink_in o b dotdot → (w : Unlinked) (y : List ℕ) → (y, w) ≡ unlink_in o x dot → is_alone w ≡ alone_in o d
+  pub alone-read : ok ≡ true → (u : Result Unlinked Damage) (x : List ℕ) → (x, u) ≡ unlink_in o b dotdot → (w : Result Unlinked Damage) (y : List ℕ) → (y, w) ≡ unlink_in o x dot → is_alone w ≡ alone_in o d
   alone-read h u x ex w y ey =
-      let p : x ≡ (unlink_in o b dotdot).0 = ap (λ (z : List ℕ × Unlinked). z.0) ex in
-      let q : w ≡ (unlink_in o x dot).1 = ap (λ (z : List ℕ × Unlinked). z.1) ey in
+      let p : x ≡ (unlink_in o b dotdot).0 = ap (λ (z : List ℕ × Result Unlinked Damage). z.0) ex in
+      let q : w ≡ (unlink_in o x dot).1 = ap (λ (z : List ℕ × Result Unlinked Damage). z.1) ey in
       rw (e, h, ← p, ← q)
 
 module _ (geo : Geometry) (img : List ℕ) (e : Spot) (up own : Hit) where
@@ -205,10 +217,27 @@ small-tail geo size h l z =
 -- ---- the three records that go, by one test
 
 module _ (drop : Geometry → ℕ → Hit → Out (Unit {0})) (geo : Geometry) (img : List ℕ) (size : ℕ) (e : Spot) (link up own : Hit) where
-  pub drops-is : (left : ℕ) (last : Hit) → left ≡ size_after e.shape.size up → last ≡ own_after geo img e up own → (a b d s r : Out (Unit {0}))
-      → a ≡ drop geo size link → b ≡ drop geo e.shape.size up → d ≡ drop geo left last → s ≡ and_then b (λ _. d) → r ≡ and_then a (λ _. s) → r ≡ drops_out drop geo img size e link up own
+  pub drops-first : (z : Refusal) → refused z ≡ drop geo size link → refused z ≡ drops_out drop geo img size e link up own
   unfolding drops_out
-  drops-is left last el eh a b d s r ea eb ed es er = rw (er, es, ea, eb, ed, el, eh)
+  drops-first z h = rw (← h)
+
+  module _ (a : got (tt {0}) ≡ drop geo size link) where
+    pub drops-second : (z : Refusal) → refused z ≡ drop geo e.shape.size up → refused z ≡ drops_out drop geo img size e link up own
+    unfolding drops_out
+    drops-second z h = rw (← a, ← h)
+
+    pub drops-third : got (tt {0}) ≡ drop geo e.shape.size up → (left : ℕ) (last : Hit) → left ≡ size_after e.shape.size up → last ≡ own_after geo img e up own
+        → (x : Out (Unit {0})) → x ≡ drop geo left last → x ≡ drops_out drop geo img size e link up own
+    unfolding drops_out
+    drops-third b left last el eh x h = rw (← a, ← b, ← el, ← eh) h
+
+-- two tests, of which the first that refuses answers
+module _ (a b : Out (Unit {0})) where
+  pub first-refuses : (z : Refusal) → refused z ≡ a → refused z ≡ and_then a (λ _. b)
+  first-refuses z h = rw (← h)
+
+  pub second-tells : got (tt {0}) ≡ a → (x : Out (Unit {0})) → x ≡ b → x ≡ and_then a (λ _. b)
+  second-tells g x h = rw (← g) h
 
 -- ---- all that is judged of what was found
 

@@ -1,5 +1,5 @@
 -- 01: what rmdir is judged by before any store: "each is judged for every step the call would make, found inodes included, on what that step would meet". Assumes nothing: these are definitions.
-use Rattle.std.specs.Prelude.{Bool, true, false, not, ◌&&◌, List, [], ◌∷◌, ℕ, ◌+◌, ◌-◌, ◌*◌, ◌<◌, eqb, ltb, leb}
+use Rattle.std.specs.Prelude.{Bool, true, false, not, ◌&&◌, List, [], ◌∷◌, ℕ, ◌+◌, ◌-◌, ◌*◌, ◌<◌, eqb, ltb, leb, Result, Ok, Err}
 use Rattle.field.specs.declared.Order.{Order}
 use Rattle.refusal.specs.declared.Refusal.TheVariants.{Invalid, Damaged, NoEntry, NotEmpty}
 use Rattle.store.specs.Act.{Out, got, refused}
@@ -23,8 +23,9 @@ use Rattle.dirwalk.specs.Walk.{lookup_dir, find_dir}
 use Rattle.dirother.specs.Other.{others_dir}
 use Rattle.dirjudge.specs.Judge.{drop_end, drop_tail}
 use Rattle.unlink_judge.specs.Unlink.{there_out, hit_where, on_hit, in_dir_only, found_ok, fall_out}
-use Rattle.rmdir_judge.specs.declared.Removal.{Removal}
-use Rattle.rmdir_judge.specs.declared.Removal.TheVariants as Removal
+use Rattle.refusal.specs.Refusal.{damage}
+use Rattle.refusal.specs.declared.Damage.{Damage}
+use Rattle.refusal.specs.declared.Refusal.{Refusal}
 
 -- ---- what the call finds
 
@@ -111,11 +112,11 @@ counts_out geo img i up own = and_then (fall_out geo img up) (λ _. and_then (fa
 
 -- ---- 27 and 45, in step order: the name goes, then "..", then ".", which meets what ".." left
 
-abbrev pub is_alone : Unlinked → Bool
-is_alone (Unlinked.Done i) = false
-is_alone (Unlinked.Alone i) = true
-is_alone Unlinked.Absent = false
-is_alone Unlinked.Bad = false
+abbrev pub is_alone : Result Unlinked Damage → Bool
+is_alone (Ok (Unlinked.Done i)) = false
+is_alone (Ok (Unlinked.Alone i)) = true
+is_alone (Ok Unlinked.Absent) = false
+is_alone (Err harm) = false
 
 -- whether "." stands alone in a block that ".." was unlinked from
 abbrev pub alone_in : Order → Out (List ℕ) → Bool
@@ -207,10 +208,10 @@ gone_out geo img s name hurt = refused Damaged
 
 -- ---- the code's answer
 
-abbrev pub removal_of : Sought ℕ → Out (Unit {0}) → Removal
-removal_of (here i) (got x) = Removal.Dir i
-removal_of (here i) (refused e) = Removal.No e
-removal_of nowhere (got x) = Removal.No NoEntry
-removal_of nowhere (refused e) = Removal.No e
-removal_of hurt (got x) = Removal.No Damaged
-removal_of hurt (refused e) = Removal.No e
+abbrev pub removal_of : Sought ℕ → Out (Unit {0}) → Result ℕ Refusal
+removal_of (here i) (got x) = Ok i
+removal_of (here i) (refused e) = Err e
+removal_of nowhere (got x) = Err NoEntry
+removal_of nowhere (refused e) = Err e
+removal_of hurt (got x) = Err Damaged
+removal_of hurt (refused e) = Err e

@@ -15,29 +15,10 @@ ghost use Rattle.unlink_judge.specs.Unlink.{hit_where, found_ok};
 ghost use Rattle.rmdir_judge.specs.Rmdir.{falls, remains, remain_all, own_ok, empty_out, counts_out, alone_in, own_after, size_after, drops_out, gone_in, rmdir_stages, Numbers, hits_out, dirs_out, gone_out, found_out, removal_of};
 
 use dirblock::Unlinked;
-use dirother::Others;
-use dirwalk::{Hit, Looked, Seen};
-use inode_grow::Growth;
-use inode_run::{Found, Spot};
-use refusal::Refusal;
+use dirwalk::Hit;
+use inode_run::Spot;
+use refusal::{Damage, Refusal};
 use volume::{Geometry, InodeNum};
-
-// The inode number of the directory that may go, or why it may not.
-#[derive(Clone, Copy)]
-pub enum Removal {
-    Dir(u32),
-    No(Refusal),
-}
-
-// Two tests, of which the first that refuses answers.
-fn both(a: Growth, b: Growth) -> Growth
-    ensures { growth_out result ≡ and_then (growth_out a) (λ _. growth_out b) }
-{
-    match a {
-        Growth::Free => b,
-        Growth::No(e) => Growth::No(e),
-    }
-}
 
 // How often inode x falls where y does.
 fn falls_with(x: u32, y: u32) -> u16
@@ -73,19 +54,24 @@ fn remain_all(img: &[u8], geo: Geometry, i: u32, up: u32, own: u32) -> bool
 }
 
 // The inode of a record that was found.
-fn hit_ok(img: &[u8], geo: Geometry, x: Seen) -> bool
+fn hit_ok(img: &[u8], geo: Geometry, x: Result<Option<Hit>, Damage>) -> bool
     requires { Frame geo img.now }
     ensures { result ≡ hit_where (seen_out x) (λ h. found_ok geo img.now h.inr) }
 {
-    match x {
-        Seen::At(h) => unlink_judge::found_ok(img, geo, h.inr),
-        Seen::Absent => true,
-        Seen::Bad => true,
-    }
+    let Ok(Some(h)) = x else {
+        return true;
+    };
+    unlink_judge::found_ok(img, geo, h.inr)
 }
 
 // The inodes of ".." and ".", as the steps meet them.
-fn own_ok(img: &[u8], geo: Geometry, i: u32, up: Seen, own: Seen) -> bool
+fn own_ok(
+    img: &[u8],
+    geo: Geometry,
+    i: u32,
+    up: Result<Option<Hit>, Damage>,
+    own: Result<Option<Hit>, Damage>,
+) -> bool
     requires { Frame geo img.now × (i < geo.ncg * geo.ipg) }
     ensures { result ≡ own_ok geo img.now i (seen_out up) (seen_out own) }
 {
@@ -95,39 +81,35 @@ fn own_ok(img: &[u8], geo: Geometry, i: u32, up: Seen, own: Seen) -> bool
     if !hit_ok(img, geo, own) {
         return false;
     }
-    match up {
-        Seen::At(q) => match own {
-            Seen::At(c) => remain_all(img, geo, i, q.inr, c.inr),
-            Seen::Absent => true,
-            Seen::Bad => true,
-        },
-        Seen::Absent => true,
-        Seen::Bad => true,
-    }
+    let Some(q) = up.unwrap_or(None) else {
+        return true;
+    };
+    let Some(c) = own.unwrap_or(None) else {
+        return true;
+    };
+    remain_all(img, geo, i, q.inr, c.inr)
 }
 
 // 66: a directory that holds more than its "." and "..".
-fn judge_empty(img: &[u8], geo: Geometry, e: Spot) -> Growth
+fn judge_empty(img: &[u8], geo: Geometry, e: Spot) -> Result<(), Refusal>
     requires { Frame geo img.now × (e.at + 256 ≤ length img.now) }
     ensures { growth_out result ≡ empty_out (others_dir geo e.at e.shape.size img.now) }
 {
     let shape = e.shape;
-    match dirother::others_dir(img, geo, e.at, shape.size) {
-        Others::Some => Growth::No(Refusal::NotEmpty),
-        Others::None => Growth::Free,
-        Others::Bad => Growth::No(Refusal::Damaged),
+    if dirother::others_dir(img, geo, e.at, shape.size)? {
+        return Err(Refusal::NotEmpty);
     }
+    Ok(())
 }
 
 // 97: a count of 0 that must fall.
-fn judge_counts(img: &[u8], geo: Geometry, i: u32, up: u32, own: u32) -> Growth
+fn judge_counts(img: &[u8], geo: Geometry, i: u32, up: u32, own: u32) -> Result<(), Refusal>
     requires { Frame geo img.now × Numbers geo i up own }
     ensures { growth_out result ≡ counts_out geo img.now i up own }
 {
-    let first = unlink_judge::can_fall(img, geo, up);
-    let second = unlink_judge::can_fall(img, geo, own);
-    let third = unlink_judge::can_fall(img, geo, i);
-    both(first, both(second, third))
+    unlink_judge::can_fall(img, geo, up)?;
+    unlink_judge::can_fall(img, geo, own)?;
+    unlink_judge::can_fall(img, geo, i)
 }
 
 // Whether "." stands alone in block k once ".." is unlinked from it.
@@ -138,15 +120,13 @@ fn alone_after(img: &[u8], geo: Geometry, e: Spot, k: u64) -> bool
     let o = geo.order;
     let shape = e.shape;
     let mut block = [0u8; 512];
-    if !dirfile::read_block(img, geo, e.at, shape.size, k, &mut block) {
+    let Ok(()) = dirfile::read_block(img, geo, e.at, shape.size, k, &mut block) else {
         return false;
-    }
+    };
     let gone = dirblock_link::unlink_in(o, &mut block, b"..");
     match dirblock_link::unlink_in(o, &mut block, b".") {
-        Unlinked::Done(i) => false,
-        Unlinked::Alone(i) => true,
-        Unlinked::Absent => false,
-        Unlinked::Bad => false,
+        Ok(Unlinked::Alone(_)) => true,
+        _ => false,
     }
 }
 
@@ -177,23 +157,23 @@ fn size_after(size: u64, up: Hit) -> u64
 }
 
 // 27 of one record that goes; a directory shorter than a block of 512 bytes has none to lose.
-fn drop_end(geo: Geometry, size: u64, h: Hit) -> Growth
+fn drop_end(geo: Geometry, size: u64, h: Hit) -> Result<(), Refusal>
     requires { Sized geo }
     ensures { growth_out result ≡ drop_end geo size h }
 {
     if size < 512 {
-        return Growth::Free;
+        return Ok(());
     }
     dirjudge::drop_end(geo, size, h)
 }
 
 // 45 of one, in the same way.
-fn drop_tail(geo: Geometry, size: u64, h: Hit) -> Growth
+fn drop_tail(geo: Geometry, size: u64, h: Hit) -> Result<(), Refusal>
     requires { Sized geo }
     ensures { growth_out result ≡ drop_tail geo size h }
 {
     if size < 512 {
-        return Growth::Free;
+        return Ok(());
     }
     dirjudge::drop_tail(geo, size, h)
 }
@@ -207,7 +187,7 @@ fn judge_drops(
     link: Hit,
     up: Hit,
     own: Hit,
-) -> Growth
+) -> Result<(), Refusal>
     requires { Frame geo img.now × (e.at + 256 ≤ length img.now) × (own.block * 512 + 512 ≤ e.shape.size) }
     ensures { growth_out result ≡ and_then (drops_out drop_end geo img.now size e link up own) (λ _. drops_out drop_tail geo img.now size e link up own) }
 {
@@ -215,15 +195,12 @@ fn judge_drops(
     let held = shape.size;
     let left = size_after(held, up);
     let last = own_after(img, geo, e, up, own);
-    let ends = both(
-        drop_end(geo, size, link),
-        both(drop_end(geo, held, up), drop_end(geo, left, last)),
-    );
-    let tails = both(
-        drop_tail(geo, size, link),
-        both(drop_tail(geo, held, up), drop_tail(geo, left, last)),
-    );
-    both(ends, tails)
+    drop_end(geo, size, link)?;
+    drop_end(geo, held, up)?;
+    drop_end(geo, left, last)?;
+    drop_tail(geo, size, link)?;
+    drop_tail(geo, held, up)?;
+    drop_tail(geo, left, last)
 }
 
 // Every record was found: 66, the counts, 27 and 45.
@@ -236,21 +213,24 @@ fn judge_hits(
     link: Hit,
     up: Hit,
     own: Hit,
-) -> Growth
+) -> Result<(), Refusal>
     requires { Frame geo img.now × (e.at + 256 ≤ length img.now) × (own.block * 512 + 512 ≤ e.shape.size) × Numbers geo i up.inr own.inr }
     ensures { growth_out result ≡ hits_out geo img.now size e i link up own }
 {
-    match judge_empty(img, geo, e) {
-        Growth::Free => both(
-            judge_counts(img, geo, i, up.inr, own.inr),
-            judge_drops(img, geo, size, e, link, up, own),
-        ),
-        Growth::No(e) => Growth::No(e),
-    }
+    judge_empty(img, geo, e)?;
+    judge_counts(img, geo, i, up.inr, own.inr)?;
+    judge_drops(img, geo, size, e, link, up, own)
 }
 
 // e, the directory that is to go, in the directory s: the inodes of its own records, then the walks.
-fn judge_dirs(img: &[u8], geo: Geometry, s: Spot, e: Spot, i: u32, name: &[u8]) -> Growth
+fn judge_dirs(
+    img: &[u8],
+    geo: Geometry,
+    s: Spot,
+    e: Spot,
+    i: u32,
+    name: &[u8],
+) -> Result<(), Refusal>
     requires { Frame geo img.now × (s.at + 256 ≤ length img.now) × (e.at + 256 ≤ length img.now) × (i < geo.ncg * geo.ipg) }
     ensures { growth_out result ≡ dirs_out geo img.now s e i name.now }
 {
@@ -260,68 +240,56 @@ fn judge_dirs(img: &[u8], geo: Geometry, s: Spot, e: Spot, i: u32, name: &[u8]) 
     let up = dirwalk::find_dir(img, geo, e.at, inner.size, b"..");
     let own = dirwalk::find_dir(img, geo, e.at, inner.size, b".");
     if !own_ok(img, geo, i, up, own) {
-        return Growth::No(Refusal::Invalid);
+        return Err(Refusal::Invalid);
     }
-    match link {
-        Seen::At(v) => {
-            if !(v.inr == i) {
-                return Growth::No(Refusal::Damaged);
-            }
-            match up {
-                Seen::At(q) => match own {
-                    Seen::At(c) => judge_hits(img, geo, shape.size, e, i, v, q, c),
-                    Seen::Absent => Growth::No(Refusal::NoEntry),
-                    Seen::Bad => Growth::No(Refusal::Damaged),
-                },
-                Seen::Absent => Growth::No(Refusal::NoEntry),
-                Seen::Bad => Growth::No(Refusal::Damaged),
-            }
-        }
-        Seen::Absent => Growth::No(Refusal::Damaged),
-        Seen::Bad => Growth::No(Refusal::Damaged),
+    let Some(v) = link? else {
+        return Err(Refusal::Damaged);
+    };
+    if v.inr != i {
+        return Err(Refusal::Damaged);
     }
+    let Some(q) = up? else {
+        return Err(Refusal::NoEntry);
+    };
+    let Some(c) = own? else {
+        return Err(Refusal::NoEntry);
+    };
+    judge_hits(img, geo, shape.size, e, i, v, q, c)
 }
 
 // The inode that its name leads to: 22, then 20, before anything in it is read.
-fn judge_found(img: &[u8], geo: Geometry, s: Spot, i: u32, name: &[u8]) -> Growth
+fn judge_found(img: &[u8], geo: Geometry, s: Spot, i: u32, name: &[u8]) -> Result<(), Refusal>
     requires { Frame geo img.now × (s.at + 256 ≤ length img.now) }
     ensures { growth_out result ≡ found_out geo img.now s i name.now }
 {
-    match dirfile::find_dir(img, geo, InodeNum(i)) {
-        Found::At(e) => judge_dirs(img, geo, s, e, i, name),
-        Found::No(e) => Growth::No(e),
-    }
+    let e = dirfile::find_dir(img, geo, InodeNum(i))?;
+    judge_dirs(img, geo, s, e, i, name)
 }
 
 // The name in the directory s, as lookup finds it.
-fn judge_in(img: &[u8], geo: Geometry, s: Spot, name: &[u8]) -> Removal
+fn judge_in(img: &[u8], geo: Geometry, s: Spot, name: &[u8]) -> Result<u32, Refusal>
     requires { Frame geo img.now × (s.at + 256 ≤ length img.now) }
     ensures { result ≡ removal_of (lookup_dir geo s.at s.shape.size img.now name.now) (gone_out geo img.now s name.now (lookup_dir geo s.at s.shape.size img.now name.now)) }
 {
     let shape = s.shape;
-    match dirwalk::lookup_dir(img, geo, s.at, shape.size, name) {
-        Looked::At(i) => match judge_found(img, geo, s, i, name) {
-            Growth::Free => Removal::Dir(i),
-            Growth::No(e) => Removal::No(e),
-        },
-        Looked::Absent => Removal::No(Refusal::NoEntry),
-        Looked::Bad => Removal::No(Refusal::Damaged),
-    }
+    let Some(i) = dirwalk::lookup_dir(img, geo, s.at, shape.size, name)? else {
+        return Err(Refusal::NoEntry);
+    };
+    judge_found(img, geo, s, i, name)?;
+    Ok(i)
 }
 
 // All tests of rmdir.
-pub fn judge_rmdir(img: &[u8], geo: Geometry, dinr: InodeNum, name: &[u8]) -> Removal
+pub fn judge_rmdir(img: &[u8], geo: Geometry, dinr: InodeNum, name: &[u8]) -> Result<u32, Refusal>
     requires { Frame geo img.now }
     ensures { result ≡ removal_of (gone_in geo img.now dinr.0 name.now) (in_order (rmdir_stages geo img.now dinr.0 name.now)) }
 {
     if !dirnames::is_taken(name, true) {
-        return Removal::No(Refusal::Invalid);
+        return Err(Refusal::Invalid);
     }
     if !dirnames::is_short(name) {
-        return Removal::No(Refusal::NameTooLong);
+        return Err(Refusal::NameTooLong);
     }
-    match dirfile::find_dir(img, geo, dinr) {
-        Found::At(s) => judge_in(img, geo, s, name),
-        Found::No(e) => Removal::No(e),
-    }
+    let s = dirfile::find_dir(img, geo, dinr)?;
+    judge_in(img, geo, s, name)
 }

@@ -1,13 +1,14 @@
 -- What each test of `specs/Clauses.antt` shows when it passes, and what the code cites of the tests joined. Assumes nothing.
+use Rattle.std.specs.Prelude.{Ok, Err}
 use mathlib.Core.Path.{◌≡◌, refl, sym, ap, ◌∙◌}
 use mathlib.Core.Bool.{Bool, true, false, ◌&&◌, ◌||◌}
 use mathlib.Core.List.{List}
 use mathlib.Core.Logic.{◌⊎◌, inl, inr, ⊎_elim}
-use Prim.Native.Nat.{ℕ, zero, suc, ◌+◌, ◌-◌, ◌*◌, ◌/◌, ◌%◌, ◌≤◌, ◌<◌}
+use Prim.Native.Nat.{ℕ, zero, suc, ◌+◌, ◌-◌, ◌*◌, ◌/◌, ◌≤◌, ◌<◌}
 use native.Mathlib.Nat.{mul-le-mul_right, lt_of_mul-lt-mul_right, add-mul}
 use native.Mathlib.Omega.{arith}
 use lib.ListN.{length}
-use lib.Dec.{leb, ltb, eqb}
+use lib.Dec.{eqb}
 use borrow.Author.Tests.{leb-true, ltb-true, eqb-true, le-leb}
 use Rattle.volume.specs.declared.Geometry.{Geometry}
 use Rattle.volume.specs.declared.Group.{Group}
@@ -15,15 +16,12 @@ use Rattle.volume.specs.Volume.{geometry_of, magic_at, byte_at, cg_at, group_mag
 use Rattle.volume.proofs.Laws.{le_product, byte_at-eq, byte_at-inside}
 use Rattle.bits.specs.Upto.{all}
 use Rattle.bits.specs.Bits.{is_frag, frag_free}
-use Rattle.bits.proofs.UptoLaws.{both, true-not-false, not-true, all-at, all_fail, all-none}
+use Rattle.bits.proofs.UptoLaws.{both, true-not-false, all-at, all_fail}
 use Rattle.bits.proofs.BitsLaws.{free-bit}
-use Rattle.sound.specs.declared.Taken.{Taken}
-use Rattle.sound.specs.declared.Taken.TheVariants.{Sound, Unsound}
 use Rattle.refusal.specs.declared.Refusal.TheVariants.{Damaged}
-use Rattle.sound.specs.declared.Opened.{Opened}
-use Rattle.sound.specs.declared.Opened.TheVariants.{Volume, No}
-use Rattle.sound.specs.Clauses.{fs_magic, cg_magic, is_block_size, sizes_ok, places_ok, header_ok, counts_ok, totals_ok, reserved_from, map_ok, body_ok, group_ok, groups_ok, zero_ok, super_ok, soundb}
+use Rattle.sound.specs.Clauses.{fs_magic, cg_magic, is_block_size, sizes_ok, places_ok, header_ok, counts_ok, reserved_from, map_ok, body_ok, group_ok, groups_ok, zero_ok, super_ok, soundb}
 use Rattle.sound.specs.Test.{Sized, Laid, Placed, Headed, taken_of, opened}
+use Rattle.refusal.specs.Refusal.{damage}
 
 pub either : (a b : Bool) → (a || b) ≡ true → (a ≡ true) ⊎ (b ≡ true)
 either true b h = inl refl
@@ -256,18 +254,18 @@ sound-last img lo hi s p t g = rw (le-leb 66912 (length img) lo, le-leb (length 
 pub untested : (img : List ℕ) → Tested img → soundb img ≡ true
 untested img t = sound-last img t.low t.high t.sizes t.places t.super t.groups ∙ t.first
 
-pub taken-not : (img : List ℕ) → soundb img ≡ false → taken_of img ≡ Unsound
+pub taken-not : (img : List ℕ) → soundb img ≡ false → taken_of img ≡ Err damage
 unfolding taken_of
 taken-not img h = rw h
 
-pub taken-yes : (img : List ℕ) → soundb img ≡ true → taken_of img ≡ Sound (geometry_of img)
+pub taken-yes : (img : List ℕ) → soundb img ≡ true → taken_of img ≡ Ok (geometry_of img)
 unfolding taken_of
 taken-yes img h = rw h
 
-pub opened-not : (img : List ℕ) (writable : Bool) → soundb img ≡ false → opened img writable ≡ No Damaged
+pub opened-not : (img : List ℕ) (writable : Bool) → soundb img ≡ false → opened img writable ≡ Err Damaged
 unfolding opened
 opened-not img w h = rw h
 
-pub opened-yes : (img : List ℕ) (writable : Bool) → soundb img ≡ true → opened img writable ≡ Volume (record { writable = writable })
+pub opened-yes : (img : List ℕ) (writable : Bool) → soundb img ≡ true → opened img writable ≡ Ok (record { writable = writable })
 unfolding opened
 opened-yes img w h = rw h

@@ -1,5 +1,5 @@
 -- The test passes exactly on the volumes that 01 calls sound: `soundb img ≡ true` says `Sound img`, and the other way about. Assumes nothing.
-use mathlib.Core.Path.{◌≡◌, refl, sym, ap, subst, ◌∙◌}
+use mathlib.Core.Path.{◌≡◌, refl, ap, ◌∙◌}
 use mathlib.Core.Bool.{Bool, true, false, ◌&&◌, ◌||◌}
 use mathlib.Core.List.{List}
 use mathlib.Core.Logic.{◌⊎◌, inl, inr, ⊎_elim}
@@ -8,7 +8,7 @@ use native.Mathlib.Nat.{pow-le-pow_right, le-div_iff_mul-le}
 use native.Mathlib.Omega.{arith}
 use native.Mathlib.Decide.{dec_lt}
 use lib.ListN.{length}
-use lib.Dec.{leb, ltb, eqb}
+use lib.Dec.{leb, eqb}
 use lib.IntN.{nat_abs}
 use borrow.Author.Tests.{leb-true, eqb-true, le-leb, lt-ltb, eq-eqb}
 use Rattle.field.specs.declared.Order.{Order}
@@ -17,7 +17,7 @@ use Rattle.volume.specs.declared.Geometry.{Geometry}
 use Rattle.volume.specs.declared.Group.{Group}
 use Rattle.volume.specs.declared.Count.{Count}
 use Rattle.volume.specs.declared.Count.TheVariants.{Nbfree, Nifree, Nffree}
-use Rattle.volume.specs.Volume.{sb_at, geometry_of, magic_at, byte_at, cg_at, group_magic_at, group_of, count_at, total_at}
+use Rattle.volume.specs.Volume.{sb_at, geometry_of, magic_at, byte_at, cg_at, group_magic_at, count_at, total_at}
 use Rattle.volume.specs.Signed.{signed}
 use Rattle.volume.proofs.SignedLaws.{signed-pos, signed_neg}
 use Rattle.volume.proofs.Laws.{byte_at-inside, geometry_order}
@@ -25,9 +25,9 @@ use Rattle.bits.specs.Bits.{is_frag, bit_at, bits_are}
 use Rattle.bits.proofs.UptoLaws.{both, all-holds}
 use Rattle.bits.proofs.BitsLaws.{bits_at, bits-hold}
 use Rattle.sound.specs.Clauses.{fs_magic, cg_magic, all_counts, is_block_size, sizes_ok, places_ok, header_ok, within, counts_ok, totals_ok, reserved_from, map_ok, body_ok, group_ok, groups_ok, zero_ok, super_ok, soundb}
-use Rattle.sound.specs.Sound.{group_at, free_bit, Reserved, Magics, SizesRight, PlacesRight, MapsPlaced, MapRight, CountsRight, SoundWith, Sound}
-use Rattle.sound.specs.Test.{Headed, Laid}
-use Rattle.sound.proofs.Laws.{either, size_cases, frag_cases, size_between, sized, unit-sized, laid, group-headed, group-body, Bodied, bodied, groups-at, reserved-first, reserved-later, reserved-within, Tested, tested, untested}
+use Rattle.sound.specs.Sound.{group_at, Reserved, SizesRight, PlacesRight, SoundWith, Sound}
+use Rattle.sound.specs.Test.{Headed}
+use Rattle.sound.proofs.Laws.{either, size_cases, frag_cases, size_between, sized, unit-sized, laid, group-headed, group-body, Bodied, bodied, groups-at, tested, untested}
 
 -- ---- counts
 

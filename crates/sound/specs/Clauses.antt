@@ -1,7 +1,7 @@
 -- What a volume is tested for, as the sound test computes it; `specs/Sound.antt` has the page's own words. Assumes nothing: these are definitions.
-use Rattle.std.specs.Prelude.{◌≡◌, Bool, true, false, ◌&&◌, ◌||◌, List, ℕ, zero, suc, ◌+◌, ◌-◌, ◌*◌, ◌/◌, ◌%◌, ◌≤◌, ◌<◌, length, leb, ltb, eqb}
+use Rattle.std.specs.Prelude.{Bool, ◌&&◌, ◌||◌, List, ℕ, zero, suc, ◌+◌, ◌-◌, ◌*◌, ◌/◌, ◌%◌, length, leb, ltb, eqb}
 use Rattle.field.specs.declared.Order.{Order}
-use Rattle.field.specs.declared.Order.TheVariants.{Little, Big}
+use Rattle.field.specs.declared.Order.TheVariants.{Little}
 use Rattle.volume.specs.declared.Geometry.{Geometry}
 use Rattle.volume.specs.declared.Group.{Group}
 use Rattle.volume.specs.declared.Count.{Count}

@@ -1,15 +1,15 @@
 -- What the test has learnt on the way, and what it answers. Assumes nothing: these are definitions.
-use Rattle.std.specs.Prelude.{◌≡◌, Bool, true, false, List, ℕ, ◌+◌, ◌-◌, ◌*◌, ◌/◌, ◌%◌, ◌≤◌, ◌<◌}
+use Rattle.std.specs.Prelude.{◌≡◌, Bool, true, false, List, ℕ, ◌+◌, ◌-◌, ◌*◌, ◌/◌, ◌%◌, ◌≤◌, ◌<◌, Result, Ok, Err}
 use Rattle.refusal.specs.declared.Refusal.TheVariants.{Damaged}
 use Rattle.volume.specs.declared.Geometry.{Geometry}
 use Rattle.volume.specs.declared.Group.{Group}
 use Rattle.volume.specs.Volume.{geometry_of, byte_at}
 use Rattle.bits.specs.Bits.{is_frag}
-use Rattle.sound.specs.declared.Taken.{Taken}
-use Rattle.sound.specs.declared.Taken.TheVariants.{Sound, Unsound}
-use Rattle.sound.specs.declared.Opened.{Opened}
-use Rattle.sound.specs.declared.Opened.TheVariants.{Volume, No}
 use Rattle.sound.specs.Clauses.{is_block_size, soundb}
+use Rattle.refusal.specs.Refusal.{damage}
+use Rattle.refusal.specs.declared.Damage.{Damage}
+use Rattle.refusal.specs.declared.Refusal.{Refusal}
+use Rattle.volume.specs.declared.Volume.{Volume}
 
 -- of the sizes
 pub record Sized (geo : Geometry) : Type 0 where
@@ -60,18 +60,18 @@ pub record Headed (geo : Geometry) (frags g : ℕ) (r : Group) : Type 0 where
   pub free_from : r.iusedoff + geo.ipg / 8 ≤ r.freeoff
   pub map_end : r.freeoff + (r.ndblk + 7) / 8 ≤ (geo.iblkno - geo.cblkno) * geo.fsize
 
-abbrev pick_taken : Bool → Taken → Taken → Taken
+abbrev pick_taken : Bool → Result Geometry Damage → Result Geometry Damage → Result Geometry Damage
 pick_taken true a b = a
 pick_taken false a b = b
 
 -- the geometry of a sound volume
-unfoldable pub taken_of : List ℕ → Taken
-taken_of img = pick_taken (soundb img) (Sound (geometry_of img)) Unsound
+unfoldable pub taken_of : List ℕ → Result Geometry Damage
+taken_of img = pick_taken (soundb img) (Ok (geometry_of img)) (Err damage)
 
-abbrev pick_opened : Bool → Opened → Opened → Opened
+abbrev pick_opened : Bool → Result Volume Refusal → Result Volume Refusal → Result Volume Refusal
 pick_opened true a b = a
 pick_opened false a b = b
 
 -- "97: not sound"; a volume is read-only or not as it was opened
-unfoldable pub opened : List ℕ → Bool → Opened
-opened img writable = pick_opened (soundb img) (Volume (record { writable = writable })) (No Damaged)
+unfoldable pub opened : List ℕ → Bool → Result Volume Refusal
+opened img writable = pick_opened (soundb img) (Ok (record { writable = writable })) (Err Damaged)

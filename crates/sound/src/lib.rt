@@ -1,39 +1,15 @@
 // ufs/mod.rs (check): whether an image is a volume that is taken, tested first by every public call.
 #![tactic(auto)]
 
-ghost use Rattle.std.specs.Prelude.{◌≡◌, Bool, true, false, ℕ, ◌+◌, ◌-◌, ◌*◌, ◌/◌, ◌%◌, ◌≤◌, ◌<◌, length, eqb};
+ghost use Rattle.std.specs.Prelude.{◌≡◌, true, ◌+◌, ◌/◌, ◌≤◌, length};
 ghost use Rattle.volume.specs.Volume.{geometry_of, byte_at, group_of};
 ghost use Rattle.bits.specs.Bits.{is_frag};
 ghost use Rattle.sound.specs.Clauses.{is_block_size, sizes_ok, places_ok, header_ok, within, counts_ok, totals_ok, super_ok, reserved_from, map_ok, body_ok, group_ok, groups_ok, zero_ok, soundb};
 ghost use Rattle.sound.specs.Test.{Laid, Placed, Headed, taken_of, opened};
 
 use field::Order;
-use refusal::Refusal;
+use refusal::{Damage, Refusal};
 use volume::{Count, Geometry, Group, Volume};
-
-// A sound volume's geometry, or none.
-#[derive(Clone, Copy)]
-pub enum Taken {
-    Sound(Geometry),
-    Unsound,
-}
-
-// What opening answers.
-#[derive(Clone, Copy)]
-pub enum Opened {
-    Volume(Volume),
-    No(Refusal),
-}
-
-// Whether y divides x; 0 divides 0 alone.
-fn divides(y: u32, x: u32) -> bool
-    ensures { result ≡ eqb (x % y) 0 }
-{
-    if y == 0 {
-        return x == 0;
-    }
-    x % y == 0
-}
 
 fn is_block_size(b: u32) -> bool
     ensures { result ≡ is_block_size b }
@@ -55,10 +31,10 @@ fn sizes_ok(g: Geometry) -> bool
         & (volume::product(g.fsize, g.frag) == g.bsize as usize)
         & (1 <= g.ncg)
         & (1 <= g.ipg)
-        & (g.ipg % 8 == 0)
+        & g.ipg.is_multiple_of(8)
         & (1 <= g.fpg)
         & (g.fpg < 2147483648)
-        & divides(g.frag, g.fpg)
+        & g.fpg.is_multiple_of(g.frag)
         & (volume::product(g.ncg, g.ipg) < 4294967296)
 }
 
@@ -186,12 +162,10 @@ fn groups_ok(img: &[u8], geo: Geometry) -> bool
     requires { Laid geo (length img.now) }
     ensures { result ≡ groups_ok img.now geo }
 {
-    let mut g = 0;
-    while g < geo.ncg {
+    for g in 0..geo.ncg {
         if !group_ok(img, geo, g) {
             return false;
         }
-        g += 1;
     }
     true
 }
@@ -242,21 +216,21 @@ fn geometry_of_sound(img: &[u8]) -> Geometry
 }
 
 // The test that every public call makes first.
-pub fn take_volume(img: &[u8]) -> Taken
+pub fn take_volume(img: &[u8]) -> Result<Geometry, Damage>
     ensures { result ≡ taken_of img.now }
 {
     if !sound(img) {
-        return Taken::Unsound;
+        return Err(Damage);
     }
-    Taken::Sound(geometry_of_sound(img))
+    Ok(geometry_of_sound(img))
 }
 
 // Ufs::new: the volume, to be read, or written too.
-pub fn open(img: &[u8], writable: bool) -> Opened
+pub fn open(img: &[u8], writable: bool) -> Result<Volume, Refusal>
     ensures { result ≡ opened img.now writable }
 {
     if !sound(img) {
-        return Opened::No(Refusal::Damaged);
+        return Err(Refusal::Damaged);
     }
-    Opened::Volume(Volume { writable })
+    Ok(Volume { writable })
 }

@@ -2,7 +2,7 @@
 // what it just takes and what it just refuses. `stdout` has 01's answers.
 #![tactic(auto)]
 
-use field::Order;
+use field::{Number, Order};
 use std::fs;
 use std::io::{self, Read};
 use std::rt::Files;
@@ -74,19 +74,19 @@ type Card = [u8; 331776];
 
 fn put8(img: &mut Card, at: usize, v: u8) {
     if at < 331776 {
-        field::put_u8(Order::Little, img, at, v);
+        v.put(Order::Little, img, at);
     }
 }
 
 fn put32(img: &mut Card, at: usize, v: u32) {
     if at < 331773 {
-        field::put_u32(Order::Little, img, at, v);
+        v.put(Order::Little, img, at);
     }
 }
 
 fn put64(img: &mut Card, at: usize, v: u64) {
     if at < 331769 {
-        field::put_u64(Order::Little, img, at, v);
+        v.put(Order::Little, img, at);
     }
 }
 

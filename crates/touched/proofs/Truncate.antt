@@ -1,4 +1,5 @@
 -- Setting a file's size changes no byte but of its record, its lists, the maps and the counts: at every cut, finished or refused. Assumes nothing.
+use Rattle.std.specs.Prelude.{Ok}
 use mathlib.Core.Path.{◌≡◌, refl}
 use mathlib.Core.List.{List, [], ◌∷◌}
 use Prim.Native.Nat.{ℕ, ◌<◌}
@@ -13,7 +14,6 @@ use Rattle.store.proofs.AlwaysLaws.{always-all, always-bind, always-refuse, alwa
 use Rattle.volume.specs.declared.Geometry.{Geometry}
 use Rattle.volume.specs.declared.Volume.{Volume}
 use Rattle.volume.specs.Volume.{inode_at}
-use Rattle.sound.specs.declared.Taken.TheVariants.{Sound}
 use Rattle.sound.specs.Test.{taken_of}
 use Rattle.frame.specs.Frame.{Frame, InodeIs}
 use Rattle.inode.specs.declared.Shape.{Shape}
@@ -62,7 +62,7 @@ module _ (geo : Geometry) (img : List ℕ) (fr : Frame geo img) (i at : ℕ) (is
       go (refused r) e = always-refuse (Unit {0}) r (kept-but-refl (TruncateByte geo img at) img)
 
 -- the public call, on a volume that is taken
-pub call_touches : (vol : Volume) (i new : ℕ) (img : List ℕ) (geo : Geometry) → taken_of img ≡ Sound geo → Always (KeptBut (TruncateByte geo img (inode_at geo i)) img) (inode_truncate vol i new) img
+pub call_touches : (vol : Volume) (i new : ℕ) (img : List ℕ) (geo : Geometry) → taken_of img ≡ Ok geo → Always (KeptBut (TruncateByte geo img (inode_at geo i)) img) (inode_truncate vol i new) img
 unfolding inode_truncate writing truncate_for
 call_touches vol i new img geo t =
     always_at (λ x. entering vol (λ geo. truncate_for geo i new) (taken_of x)) img

@@ -1,4 +1,5 @@
 -- What giving out and other stores do to the map's free bytes. Assumes nothing.
+use Rattle.std.specs.Prelude.{Option, Some, None}
 use mathlib.Core.Path.{◌≡◌, refl, sym, ap, subst, ◌∙◌}
 use mathlib.Core.Bool.{Bool, true, false}
 use mathlib.Core.List.{List, [], ◌∷◌}
@@ -27,8 +28,6 @@ use Rattle.frame.proofs.Places.{order, spots}
 use Rattle.frame.proofs.Stores.{record_apart}
 use Rattle.frame.proofs.WriteLaws.{apply-map, apply-count, apply-total}
 use Rattle.inode.proofs.SizeLaws.{units}
-use Rattle.balloc_give.specs.declared.Chosen.{Chosen}
-use Rattle.balloc_give.specs.declared.Chosen.TheVariants as Chosen
 use Rattle.balloc_give.specs.Give.{chosen, giving, give_stores, give_block, block_address}
 use Rattle.balloc_give.proofs.GiveLaws.{IsChosen, chosen-is, block_inside, block-byte, block-place, give-cut, give_three}
 use Rattle.balloc_give.proofs.Theorems.{given-first}
@@ -214,9 +213,9 @@ module _ (geo : Geometry) (img : List ℕ) (fr : Frame geo img) where
   unfolding give_block
   give-fewer n = free-fewer geo ((give-steady geo img fr).holds n) (rw (cut_act_lem n (give_block geo) img) (go (chosen geo img) refl))
     where
-      go : (c : Chosen) → chosen geo img ≡ c → BitsFewer geo img (cut n (giving geo img c).stores img)
-      go Chosen.Nothing q = rw (cut-none n img) (λ k f lk lf b. b)
-      go (Chosen.Block g h) q = cut-fewer g h (chosen-is geo img g h q) n
+      go : (c : Option (ℕ × ℕ)) → chosen geo img ≡ c → BitsFewer geo img (cut n (giving geo img c).stores img)
+      go None q = rw (cut-none n img) (λ k f lk lf b. b)
+      go (Some (g, h)) q = cut-fewer g h (chosen-is geo img g h q) n
 
   module _ (a : ℕ) (e : (give_block geo img).out ≡ got a) where
     -- every byte of the block given was free
@@ -228,8 +227,8 @@ module _ (geo : Geometry) (img : List ℕ) (fr : Frame geo img) where
     unfolding give_block
     given-taken {j} = go (chosen geo img) refl e (always-all (give-steady geo img fr))
       where
-        go : (c : Chosen) → chosen geo img ≡ c → (giving geo img c).out ≡ got a → Steady geo img (apply_all (giving geo img c).stores img) → Free geo (apply_all (giving geo img c).stores img) j → Range (a * geo.fsize) geo.bsize j → ⊥
-        go Chosen.Nothing q e s p r = let z : ◌≡◌ {A = ℕ} 0 1 = cc in omega arith
-        go (Chosen.Block g h) q e s p r =
+        go : (c : Option (ℕ × ℕ)) → chosen geo img ≡ c → (giving geo img c).out ≡ got a → Steady geo img (apply_all (giving geo img c).stores img) → Free geo (apply_all (giving geo img c).stores img) j → Range (a * geo.fsize) geo.bsize j → ⊥
+        go None q e s p r = let z : ◌≡◌ {A = ℕ} 0 1 = cc in omega arith
+        go (Some (g, h)) q e s p r =
             let same : block_address geo g h ≡ a = cc in
             block-not g h (chosen-is geo img g h q) (sym (cut-all 3 (give_stores geo img g h) img (omega (arith, give_three geo img g h)))) s p (subst (λ (x : ℕ). Range (x * geo.fsize) geo.bsize j) (sym same) r)

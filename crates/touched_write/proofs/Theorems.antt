@@ -1,4 +1,5 @@
 -- Where each store of inode_write lies: in the maps and counts, in the inode's record, in a block that was free, in a data block or a list of the file; and all along the layout stays. At every cut, on damaged volumes too. Assumes nothing.
+use Rattle.std.specs.Prelude.{Ok}
 use mathlib.Core.Path.{◌≡◌, refl, subst}
 use mathlib.Core.List.{List}
 use Prim.Native.Nat.{ℕ, zero, suc, ◌+◌, max}
@@ -12,7 +13,6 @@ use Rattle.store.proofs.CutLaws.{cut_act_lem, cut-none}
 use Rattle.volume.specs.declared.Geometry.{Geometry}
 use Rattle.volume.specs.declared.Volume.{Volume}
 use Rattle.volume.specs.Volume.{inode_at}
-use Rattle.sound.specs.declared.Taken.TheVariants.{Sound}
 use Rattle.sound.specs.Test.{taken_of}
 use Rattle.inode.specs.Shape.{shape_of}
 use Rattle.inode_run.specs.declared.Spot.{Spot}
@@ -55,7 +55,7 @@ module _ (vol : Volume) (i off : ℕ) (buf img : List ℕ) (geo : Geometry) wher
   abbrev Seen : List ℕ → Type 0
   Seen = Passes (inode_write vol i off buf) img
 
-  module _ (t : taken_of img ≡ Sound geo) where
+  module _ (t : taken_of img ≡ Ok geo) where
     here : Going geo img img
     here = going-refl geo img (taken-frame img geo t)
 

@@ -1,4 +1,5 @@
 -- Laws of the public call: its tests, and what it then leaves. Assumes nothing.
+use Rattle.std.specs.Prelude.{Result, Ok, Err}
 use mathlib.Core.Path.{◌≡◌, refl, sym, ap, ◌∙◌}
 use mathlib.Core.Bool.{Bool, true, false, not, ◌&&◌}
 use mathlib.Core.List.{List}
@@ -13,7 +14,6 @@ use Rattle.store.proofs.StoreLaws.{apply_all-none}
 use Rattle.store.proofs.ActLaws.{leaves-refuse}
 use Rattle.volume.specs.declared.Geometry.{Geometry}
 use Rattle.volume.specs.declared.Volume.{Volume}
-use Rattle.sound.specs.declared.Taken.TheVariants.{Sound, Unsound}
 use Rattle.sound.specs.Test.{taken_of}
 use Rattle.inode.specs.declared.Shape.{Shape}
 use Rattle.inode.specs.Shape.{in_place}
@@ -25,10 +25,9 @@ use Rattle.inode_run.specs.Find.{find_inode}
 use Rattle.balloc.specs.Calls.{writing}
 use Rattle.balloc.proofs.CallLaws.{when-unsound, when-read-only, when-taken}
 use Rattle.inode_grow.specs.Grow.{zones_bytes, grow_rule}
-use Rattle.inode_truncate.specs.declared.Truncated.{Truncated}
-use Rattle.inode_truncate.specs.declared.Truncated.TheVariants as Truncated
 use Rattle.inode_truncate.specs.Truncate.{keep_of, truncate_work, truncated_out}
 use Rattle.truncate.specs.Call.{truncate_judged, judged_work, truncate_for, inode_truncate}
+use Rattle.refusal.specs.Refusal.{damage}
 
 pub third_is : (geo : Geometry) (a b k new : ℕ) → a ≡ per_list geo ^ 1 → b ≡ per_list geo ^ 2 → k ≡ keep_of geo new → ltb k (12 + a + b) ≡ ltb (keep_of geo new) (zone_start (per_list geo) 3)
 third_is geo a b k new ea eb e = rw (ea, eb, e, start-three (per_list geo))
@@ -87,11 +86,11 @@ unfolding truncate_for leaves
 find-yes geo i new img s h = rw h
 
 module _ (vol : Volume) (i new : ℕ) (img : List ℕ) where
-  pub call-unsound : taken_of img ≡ Unsound → ◌≡◌ {A = Left (Unit {0})} (img, refused Damaged) (leaves (inode_truncate vol i new) img)
+  pub call-unsound : taken_of img ≡ Err damage → ◌≡◌ {A = Left (Unit {0})} (img, refused Damaged) (leaves (inode_truncate vol i new) img)
   unfolding inode_truncate leaves
   call-unsound e = rw (when-unsound vol (λ geo. truncate_for geo i new) img e, apply_all-none img)
 
-  module _ (geo : Geometry) (t : taken_of img ≡ Sound geo) where
+  module _ (geo : Geometry) (t : taken_of img ≡ Ok geo) where
     pub call-read-only : vol.writable ≡ false → ◌≡◌ {A = Left (Unit {0})} (img, refused ReadOnly) (leaves (inode_truncate vol i new) img)
     unfolding inode_truncate leaves
     call-read-only w = rw (when-read-only vol (λ geo. truncate_for geo i new) img geo t w, apply_all-none img)
@@ -109,8 +108,8 @@ module _ (vol : Volume) (i new : ℕ) (img : List ℕ) where
 
 -- ---- answers that meet the promise coincide
 
-pub truncated_same : (a b : Truncated) → truncated_out a ≡ truncated_out b → a ≡ b
-truncated_same Truncated.Done Truncated.Done e = refl
-truncated_same Truncated.Done (Truncated.No f) e = absurd (let z : ◌≡◌ {A = ℕ} 0 1 = cc in let y : ⊥ = omega arith in y)
-truncated_same (Truncated.No f) Truncated.Done e = absurd (let z : ◌≡◌ {A = ℕ} 0 1 = cc in let y : ⊥ = omega arith in y)
-truncated_same (Truncated.No e) (Truncated.No f) q = cc
+pub truncated_same : (a b : Result (Unit {0}) Refusal) → truncated_out a ≡ truncated_out b → a ≡ b
+truncated_same (Ok u) (Ok v) e = refl
+truncated_same (Ok u) (Err f) e = absurd (let z : ◌≡◌ {A = ℕ} 0 1 = cc in let y : ⊥ = omega arith in y)
+truncated_same (Err f) (Ok u) e = absurd (let z : ◌≡◌ {A = ℕ} 0 1 = cc in let y : ⊥ = omega arith in y)
+truncated_same (Err e) (Err f) q = cc

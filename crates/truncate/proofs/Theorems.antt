@@ -1,4 +1,5 @@
 -- What is relied on of setting a size: what is judged stores nothing, and the layout stays at every cut. Assumes nothing.
+use Rattle.std.specs.Prelude.{Ok}
 use mathlib.Core.Path.{◌≡◌, refl}
 use mathlib.Core.List.{List, [], ◌∷◌}
 use Prim.Native.Nat.{ℕ, ◌-◌, ◌*◌, ◌<◌}
@@ -15,7 +16,6 @@ use Rattle.store.proofs.AlwaysLaws.{always-choose, always-refuse}
 use Rattle.volume.specs.declared.Geometry.{Geometry}
 use Rattle.volume.specs.declared.Volume.{Volume}
 use Rattle.volume.specs.Volume.{inode_at}
-use Rattle.sound.specs.declared.Taken.TheVariants.{Sound}
 use Rattle.sound.specs.Test.{taken_of}
 use Rattle.frame.specs.Frame.{Frame}
 use Rattle.inode.specs.declared.Shape.{Shape}
@@ -81,7 +81,7 @@ truncate_keeps geo img fr i s e new =
     rw n.place.is (keeps-judged geo (per-some geo img fr) (inode_at geo i) (λ w o. keeps-store geo (λ _. w) (λ x f. record_steady geo x f i l o)) s.shape new img img (steady-refl geo img fr))
 
 -- the public call, on a volume that is taken
-pub call_keeps : (vol : Volume) (i new : ℕ) (img : List ℕ) (geo : Geometry) → taken_of img ≡ Sound geo → Always (Steady geo img) (inode_truncate vol i new) img
+pub call_keeps : (vol : Volume) (i new : ℕ) (img : List ℕ) (geo : Geometry) → taken_of img ≡ Ok geo → Always (Steady geo img) (inode_truncate vol i new) img
 unfolding inode_truncate writing truncate_for
 call_keeps vol i new img geo t =
     always_at (λ x. entering vol (λ geo. truncate_for geo i new) (taken_of x)) img

@@ -12,11 +12,7 @@ ghost use Rattle.inode_truncate.specs.Truncate.{keep_of, truncated_out};
 ghost use Rattle.truncate.specs.Call.{truncate_judged, judged_work, inode_truncate};
 
 use inode::Shape;
-use inode_grow::Growth;
-use inode_run::Found;
-use inode_truncate::Truncated;
 use refusal::Refusal;
-use sound::Taken;
 use volume::{Geometry, InodeNum, Volume};
 
 // Whether a shrinking file keeps no block of the triple zone.
@@ -29,54 +25,49 @@ pub fn ends_before(geo: Geometry, new: u64) -> bool
 }
 
 // The tests before the work.
-fn judge(img: &[u8], geo: Geometry, at: usize, s: Shape, new: u64) -> Growth
+fn judge(img: &[u8], geo: Geometry, at: usize, s: Shape, new: u64) -> Result<(), Refusal>
     requires { Frame geo img.now × (at + 256 ≤ length img.now) }
     ensures { growth_out result ≡ truncate_judged geo at s new img.now }
 {
     if inode::is_in_place(s) & (new < s.size) {
-        return Growth::No(Refusal::Invalid);
+        return Err(Refusal::Invalid);
     }
     if inode_grow::zones_bytes(geo) < new {
-        return Growth::No(Refusal::TooBig);
+        return Err(Refusal::TooBig);
     }
     if new < s.size {
         if ends_before(geo, new) {
-            return Growth::Free;
+            return Ok(());
         }
-        return Growth::No(Refusal::NotSupported);
+        return Err(Refusal::NotSupported);
     }
     inode_grow::grow_rule(img, geo, at, s, new)
 }
 
 // The call on an inode that is found.
-pub fn truncate_found(img: &mut [u8], geo: Geometry, at: usize, s: Shape, new: u64) -> Truncated
+pub fn truncate_found(
+    img: &mut [u8],
+    geo: Geometry,
+    at: usize,
+    s: Shape,
+    new: u64,
+) -> Result<(), Refusal>
     requires { Frame geo img.old × (at + 256 ≤ length img.old) }
     ensures { (img.new, truncated_out result) ≡ leaves (judged_work geo at s new) img.old }
 {
-    match judge(img, geo, at, s, new) {
-        Growth::Free => inode_truncate::truncate_work(img, geo, at, s, new),
-        Growth::No(e) => Truncated::No(e),
-    }
+    judge(img, geo, at, s, new)?;
+    inode_truncate::truncate_work(img, geo, at, s, new)
 }
 
 // inode_truncate: the file is as long as asked for, and blocks past its end are given back.
-pub fn inode_truncate(img: &mut [u8], vol: Volume, inr: InodeNum, new: u64) -> Truncated
+pub fn inode_truncate(img: &mut [u8], vol: Volume, inr: InodeNum, new: u64) -> Result<(), Refusal>
     ensures { (img.new, truncated_out result) ≡ leaves (inode_truncate vol inr.0 new) img.old }
 {
-    let t = sound::take_volume(img);
-    match t {
-        Taken::Sound(geo) => {
-            if !vol.writable {
-                return Truncated::No(Refusal::ReadOnly);
-            }
-            match inode_run::find_inode(img, geo, inr) {
-                Found::At(spot) => {
-                    let s = spot.shape;
-                    truncate_found(img, geo, spot.at, s, new)
-                }
-                Found::No(e) => Truncated::No(e),
-            }
-        }
-        Taken::Unsound => Truncated::No(Refusal::Damaged),
+    let geo = sound::take_volume(img)?;
+    if !vol.writable {
+        return Err(Refusal::ReadOnly);
     }
+    let spot = inode_run::find_inode(img, geo, inr)?;
+    let s = spot.shape;
+    truncate_found(img, geo, spot.at, s, new)
 }

@@ -1,4 +1,5 @@
 -- What is relied on of unlink: what is judged stores nothing, and the layout stays at every cut. Assumes nothing.
+use Rattle.std.specs.Prelude.{Ok}
 use mathlib.Core.Path.{◌≡◌, ◌∙◌}
 use mathlib.Core.Bool.{true}
 use mathlib.Core.List.{List, []}
@@ -7,7 +8,6 @@ use Rattle.refusal.specs.declared.Refusal.{Refusal}
 use Rattle.store.specs.Act.{refused, Always}
 use Rattle.volume.specs.declared.Geometry.{Geometry}
 use Rattle.volume.specs.declared.Volume.{Volume}
-use Rattle.sound.specs.declared.Taken.TheVariants.{Sound}
 use Rattle.sound.specs.Test.{taken_of}
 use Rattle.balloc.proofs.CallLaws.{when-taken}
 use Rattle.books.specs.Books.{Steady}
@@ -22,7 +22,7 @@ use Rattle.unlink.specs.Unlink.{unlink_for, unlink_call}
 
 module _ (vol : Volume) (d : ℕ) (name : List ℕ) where
   -- "Up to there nothing is stored"
-  pub judged-first : (img : List ℕ) (geo : Geometry) → taken_of img ≡ Sound geo → vol.writable ≡ true → (e : Refusal) → in_order (unlink_stages geo img d name) ≡ refused e
+  pub judged-first : (img : List ℕ) (geo : Geometry) → taken_of img ≡ Ok geo → vol.writable ≡ true → (e : Refusal) → in_order (unlink_stages geo img d name) ≡ refused e
       → unlink_call vol d name img ≡ record { stores = []; out = refused e }
   unfolding unlink_call unlink_for
   judged-first img geo t w e h = when-taken vol (unlink_for d name) img geo t w ∙ judged-nothing (λ x. in_order (unlink_stages geo x d name)) (take_name geo d name) img h
@@ -36,6 +36,6 @@ module _ (vol : Volume) (d : ℕ) (name : List ℕ) where
       (λ x. keeps_given geo (in_order (unlink_stages geo x d name)) (λ _. keeps-take-name geo d name))
 
   -- the public call, on a volume that is taken
-  pub call_keeps : (img : List ℕ) (geo : Geometry) → taken_of img ≡ Sound geo → Always (Steady geo img) (unlink_call vol d name) img
+  pub call_keeps : (img : List ℕ) (geo : Geometry) → taken_of img ≡ Ok geo → Always (Steady geo img) (unlink_call vol d name) img
   unfolding unlink_call
   call_keeps img geo t = call-steady vol (unlink_for d name) img geo t (λ _. keeps-unlink-for geo)

@@ -1,4 +1,5 @@
 -- Laws of unlink: its tests, and what it then leaves. Assumes nothing.
+use Rattle.std.specs.Prelude.{Ok, Err}
 use mathlib.Core.Path.{◌≡◌}
 use mathlib.Core.Bool.{true, false}
 use mathlib.Core.List.{List}
@@ -8,13 +9,13 @@ use Rattle.refusal.specs.declared.Refusal.TheVariants.{Damaged, ReadOnly}
 use Rattle.store.specs.Act.{got, refused, Left, leaves}
 use Rattle.volume.specs.declared.Geometry.{Geometry}
 use Rattle.volume.specs.declared.Volume.{Volume}
-use Rattle.sound.specs.declared.Taken.TheVariants.{Sound, Unsound}
 use Rattle.sound.specs.Test.{taken_of}
 use Rattle.stages.specs.Stages.{in_order}
 use Rattle.dircall.proofs.CallLaws.{judged-work, judged-stop, call-unsound, call-read-only, call-taken}
 use Rattle.dirtake.specs.Take.{take_name}
 use Rattle.unlink_judge.specs.Unlink.{unlink_stages}
 use Rattle.unlink.specs.Unlink.{unlink_for, unlink_call}
+use Rattle.refusal.specs.Refusal.{damage}
 
 module _ (d : ℕ) (name : List ℕ) where
   -- ---- on a volume that is taken
@@ -31,11 +32,11 @@ module _ (d : ℕ) (name : List ℕ) where
   -- ---- the public call
 
   module _ (vol : Volume) (img : List ℕ) where
-    pub unlink-unsound : taken_of img ≡ Unsound → ◌≡◌ {A = Left (Unit {0})} (img, refused Damaged) (leaves (unlink_call vol d name) img)
+    pub unlink-unsound : taken_of img ≡ Err damage → ◌≡◌ {A = Left (Unit {0})} (img, refused Damaged) (leaves (unlink_call vol d name) img)
     unfolding unlink_call
     unlink-unsound e = call-unsound vol (unlink_for d name) img e
 
-    module _ (geo : Geometry) (t : taken_of img ≡ Sound geo) where
+    module _ (geo : Geometry) (t : taken_of img ≡ Ok geo) where
       pub unlink-read-only : vol.writable ≡ false → ◌≡◌ {A = Left (Unit {0})} (img, refused ReadOnly) (leaves (unlink_call vol d name) img)
       unfolding unlink_call
       unlink-read-only w = call-read-only vol (unlink_for d name) img geo t w

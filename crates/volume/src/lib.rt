@@ -4,7 +4,7 @@
 ghost use Rattle.std.specs.Prelude.{◌≡◌, ◌+◌, ◌*◌, ◌/◌, ◌%◌, ◌≤◌, ◌<◌, length};
 ghost use Rattle.volume.specs.Volume.{geometry_of, byte_at, cg_at, inode_at, magic_at, group_magic_at, group_of, count_at, put_count, counts_of, total_at, put_total, totals_of, count_place, total_place};
 
-use field::Order;
+use field::{Number, Order};
 
 // An inode's number.
 #[derive(Clone, Copy)]
@@ -99,16 +99,16 @@ pub fn read_geometry(img: &[u8]) -> Geometry
 {
     Geometry {
         order: Order::Little,
-        sblkno: field::get_u32(Order::Little, img, 65536 + 8),
-        cblkno: field::get_u32(Order::Little, img, 65536 + 12),
-        iblkno: field::get_u32(Order::Little, img, 65536 + 16),
-        dblkno: field::get_u32(Order::Little, img, 65536 + 20),
-        ncg: field::get_u32(Order::Little, img, 65536 + 44),
-        bsize: field::get_u32(Order::Little, img, 65536 + 48),
-        fsize: field::get_u32(Order::Little, img, 65536 + 52),
-        frag: field::get_u32(Order::Little, img, 65536 + 56),
-        ipg: field::get_u32(Order::Little, img, 65536 + 184),
-        fpg: field::get_u32(Order::Little, img, 65536 + 188),
+        sblkno: u32::get(Order::Little, img, 65536 + 8),
+        cblkno: u32::get(Order::Little, img, 65536 + 12),
+        iblkno: u32::get(Order::Little, img, 65536 + 16),
+        dblkno: u32::get(Order::Little, img, 65536 + 20),
+        ncg: u32::get(Order::Little, img, 65536 + 44),
+        bsize: u32::get(Order::Little, img, 65536 + 48),
+        fsize: u32::get(Order::Little, img, 65536 + 52),
+        frag: u32::get(Order::Little, img, 65536 + 56),
+        ipg: u32::get(Order::Little, img, 65536 + 184),
+        fpg: u32::get(Order::Little, img, 65536 + 188),
     }
 }
 
@@ -151,7 +151,7 @@ pub fn magic(img: &[u8], o: Order, at: usize) -> u32
     requires { at + 1376 ≤ length img.now }
     ensures { result ≡ magic_at o at img.now }
 {
-    field::get_u32(o, img, at + 1372)
+    u32::get(o, img, at + 1372)
 }
 
 // The magic number of the group record at `at`.
@@ -159,7 +159,7 @@ pub fn group_magic(img: &[u8], o: Order, at: usize) -> u32
     requires { at + 168 ≤ length img.now }
     ensures { result ≡ group_magic_at o at img.now }
 {
-    field::get_u32(o, img, at + 4)
+    u32::get(o, img, at + 4)
 }
 
 // The fixed part of the group record at `at`.
@@ -168,13 +168,14 @@ pub fn read_group(img: &[u8], o: Order, at: usize) -> Group
     ensures { result ≡ group_of o at img.now }
 {
     Group {
-        ndblk: field::get_u32(o, img, at + 20),
-        iusedoff: field::get_u32(o, img, at + 92),
-        freeoff: field::get_u32(o, img, at + 96),
+        ndblk: u32::get(o, img, at + 20),
+        iusedoff: u32::get(o, img, at + 92),
+        freeoff: u32::get(o, img, at + 96),
     }
 }
 
 // Where a count stands in the group record.
+#[tactic(auto, unfolding(crate::specs::Volume::count_place))]
 pub fn count_place(c: Count) -> usize
     ensures { (result ≡ count_place c) × (result ≤ 36) }
 {
@@ -190,7 +191,7 @@ pub fn read_count(img: &[u8], o: Order, at: usize, c: Count) -> u32
     requires { at + 168 ≤ length img.now }
     ensures { result ≡ count_at o c at img.now }
 {
-    field::get_u32(o, img, at + count_place(c))
+    u32::get(o, img, at + count_place(c))
 }
 
 // All counts of the group record at `at`.
@@ -210,10 +211,11 @@ pub fn put_count(img: &mut [u8], o: Order, at: usize, c: Count, v: u32)
     requires { at + 168 ≤ length img.old }
     ensures { img.new ≡ put_count o c at v img.old }
 {
-    field::put_u32(o, img, at + count_place(c), v);
+    v.put(o, img, at + count_place(c));
 }
 
 // Where a total stands in the superblock.
+#[tactic(auto, unfolding(crate::specs::Volume::total_place))]
 pub fn total_place(c: Count) -> usize
     ensures { (result ≡ total_place c) × (result ≤ 1032) }
 {
@@ -229,7 +231,7 @@ pub fn read_total(img: &[u8], o: Order, c: Count) -> u64
     requires { 66912 ≤ length img.now }
     ensures { result ≡ total_at o c img.now }
 {
-    field::get_u64(o, img, 65536 + total_place(c))
+    u64::get(o, img, 65536 + total_place(c))
 }
 
 // All totals of the superblock.
@@ -249,5 +251,5 @@ pub fn put_total(img: &mut [u8], o: Order, c: Count, v: u64)
     requires { 66912 ≤ length img.old }
     ensures { img.new ≡ put_total o c v img.old }
 {
-    field::put_u64(o, img, 65536 + total_place(c), v);
+    v.put(o, img, 65536 + total_place(c));
 }

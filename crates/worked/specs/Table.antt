@@ -1,8 +1,6 @@
 -- 01's worked numbers: the starred lines, one row each, and the test of a row by the definitions that the calls are promised to equal. Assumes nothing.
-use Rattle.std.specs.Prelude.{Bool, true, false, ◌&&◌, List, [], ◌∷◌, ℕ, ◌*◌, ◌/◌, eqb, length}
+use Rattle.std.specs.Prelude.{Bool, true, false, ◌&&◌, List, [], ◌∷◌, ℕ, ◌*◌, ◌/◌, eqb, length, Option, Some, None}
 use Rattle.field.specs.Field.{put}
-use Rattle.bits.specs.declared.Found.{Found}
-use Rattle.bits.specs.declared.Found.TheVariants.{At, Nothing}
 use Rattle.bits.specs.Upto.{all, first}
 use Rattle.bits.specs.Bits.{bit, bit_at, bits_are, block_free, first_free, put_bits, put_bits_at}
 use Rattle.attrrec.specs.Encode.{attr_pad, attr_length}
@@ -34,13 +32,13 @@ same [] (y ∷ ys) = false
 same (x ∷ xs) [] = false
 same (x ∷ xs) (y ∷ ys) = eqb x y && same xs ys
 
-abbrev found_at : ℕ → List ℕ → Found → ℕ → List ℕ → Bool
-found_at frag map (At h) f then = eqb (frag * h) f && same (put_bits_at 0 map 0 (frag * h) frag) then
-found_at frag map Nothing f then = false
+abbrev found_at : ℕ → List ℕ → Option ℕ → ℕ → List ℕ → Bool
+found_at frag map (Some h) f then = eqb (frag * h) f && same (put_bits_at 0 map 0 (frag * h) frag) then
+found_at frag map None f then = false
 
-abbrev none : Found → Bool
-none (At h) = false
-none Nothing = true
+abbrev none : Option ℕ → Bool
+none (Some h) = false
+none None = true
 
 abbrev under : ℕ → Place → ℕ → List ℕ → Bool
 under p (Under root level rest) k path = eqb root k && same (positions p level rest.0) path

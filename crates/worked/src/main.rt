@@ -3,7 +3,6 @@
 
 ghost use Rattle.std.specs.Prelude.{◌<◌};
 
-use bits::Found;
 use mapping::Place;
 use std::io;
 use volume::BlockIdx;
@@ -29,7 +28,7 @@ fn write_map(rt: &impl Print, map: &[u8; 2]) -> io::Result<()> {
 // A block given of a map with 8 fragments to a block, if there is one.
 fn give(rt: &impl Print, map: &mut [u8; 2]) -> io::Result<()> {
     match bits_find::first_free_block(map, 0, 8, 2) {
-        Found::At(h) => {
+        Some(h) => {
             if h < 2 {
                 bits::setblock(map, 0, 8, h, false);
                 rt.write_all(b"given ")?;
@@ -38,7 +37,7 @@ fn give(rt: &impl Print, map: &mut [u8; 2]) -> io::Result<()> {
                 write_map(rt, map)?;
             }
         }
-        Found::Nothing => {
+        None => {
             rt.write_all(b"28\n")?;
         }
     }

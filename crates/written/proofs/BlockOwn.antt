@@ -1,4 +1,5 @@
 -- Writing into one block of a file whose blocks are its own: into one that has an address, and into a hole. Assumes nothing.
+use Rattle.std.specs.Prelude.{Some}
 use mathlib.Core.Path.{◌≡◌, refl, sym, ap, subst, ◌∙◌}
 use mathlib.Core.List.{List, [], ◌∷◌}
 use mathlib.Core.Logic.{inl, inr, ⊎_elim}
@@ -15,8 +16,6 @@ use Rattle.store.proofs.OnlyLaws.{kept-but-more, kept-but-num, kept-but-store, k
 use Rattle.volume.specs.declared.Geometry.{Geometry}
 use Rattle.frame.specs.Frame.{Frame, RunOk}
 use Rattle.frame.proofs.Places.{run_inside}
-use Rattle.inode.specs.declared.Held.{Held}
-use Rattle.inode.specs.declared.Held.TheVariants as Held
 use Rattle.inode.specs.Size.{held_at}
 use Rattle.inode.specs.Shape.{address_at}
 use Rattle.books.specs.Books.{Steady}
@@ -46,7 +45,7 @@ put-byte at vs xs k l w = part_at at vs (put at vs xs) k l (part-put at vs xs w)
 -- ---- stores into the data at place c
 
 module _ (geo : Geometry) (size at : ℕ) (t : InTable geo at) (x : List ℕ) (fr : Frame geo x) (own : Own geo size (addresses geo at x) x)
-    (i : ℕ) (c : Pos) (p : Indexed geo i c) (n : ℕ) (h : held_at geo size i ≡ Held.Bytes n) (live : node_at geo x (addresses geo at x) c ≡ 0 → ⊥) (some : 0 < n) where
+    (i : ℕ) (c : Pos) (p : Indexed geo i c) (n : ℕ) (h : held_at geo size i ≡ Some n) (live : node_at geo x (addresses geo at x) c ≡ 0 → ⊥) (some : 0 < n) where
   abbrev v : ℕ
   v = node_at geo x (addresses geo at x) c
 
@@ -97,7 +96,7 @@ module _ (geo : Geometry) (size at : ℕ) (t : InTable geo at) (x : List ℕ) (f
 -- ---- a block that has an address
 
 module _ (geo : Geometry) (size at : ℕ) (t : InTable geo at) (x : List ℕ) (fr : Frame geo x) (own : Own geo size (addresses geo at x) x)
-    (i : ℕ) (c : Pos) (p : Indexed geo i c) (n : ℕ) (h : held_at geo size i ≡ Held.Bytes n) (live : node_at geo x (addresses geo at x) c ≡ 0 → ⊥) (some : 0 < n)
+    (i : ℕ) (c : Pos) (p : Indexed geo i c) (n : ℕ) (h : held_at geo size i ≡ Some n) (live : node_at geo x (addresses geo at x) c ≡ 0 → ⊥) (some : 0 < n)
     (from : ℕ) (bytes : List ℕ) (fits : from + length bytes ≤ n) where
   pub piece-put : Put geo size at c n from bytes x (apply (piece_store geo (node_at geo x (addresses geo at x) c) from bytes) x)
   unfolding piece_store
@@ -131,7 +130,7 @@ module _ (geo : Geometry) (size at : ℕ) (t : InTable geo at) (x : List ℕ) (f
 -- ---- a hole that was given the block at a
 
 module _ (geo : Geometry) (size at : ℕ) (t : InTable geo at) (x y : List ℕ) (fr : Frame geo x) (own : Own geo size (addresses geo at x) x)
-    (i : ℕ) (c : Pos) (p : Indexed geo i c) (n : ℕ) (h : held_at geo size i ≡ Held.Bytes n) (some : 0 < n) (a : ℕ)
+    (i : ℕ) (c : Pos) (p : Indexed geo i c) (n : ℕ) (h : held_at geo size i ≡ Some n) (some : 0 < n) (a : ℕ)
     (hole : node_at geo x (addresses geo at x) c ≡ 0) (m : Moved (Tail at) geo size c a (addresses geo at x) x (addresses geo at y) y) (good : a ≡ 0 → ⊥)
     (free : (j : ℕ) → Range (a * geo.fsize) geo.bsize j → Free geo x j) (from : ℕ) (bytes : List ℕ) (fits : from + length bytes ≤ n) where
   fy : Frame geo y

@@ -1,4 +1,5 @@
 -- inode_write on a tidy file, cut after any store or refused: no byte changes but of maps and counts, the record, what was free and the file's own blocks; so every file that shares nothing with it stays. Assumes nothing.
+use Rattle.std.specs.Prelude.{Ok}
 use mathlib.Core.Path.{◌≡◌, refl, sym, subst}
 use mathlib.Core.Bool.{false}
 use mathlib.Core.List.{List, [], ◌∷◌}
@@ -17,7 +18,6 @@ use Rattle.store.proofs.OnlyLaws.{kept-but-refl, kept-but-more}
 use Rattle.volume.specs.declared.Geometry.{Geometry}
 use Rattle.volume.specs.declared.Volume.{Volume}
 use Rattle.volume.specs.Volume.{inode_at}
-use Rattle.sound.specs.declared.Taken.TheVariants.{Sound}
 use Rattle.sound.specs.Test.{taken_of}
 use Rattle.frame.specs.Frame.{Frame}
 use Rattle.frame.proofs.Places.{inode-is}
@@ -92,7 +92,7 @@ found-within geo s t off buf x fr some tidy =
 
 -- ---- the public call, on a volume that is taken
 
-module _ (vol : Volume) (i off : ℕ) (buf img : List ℕ) (geo : Geometry) (t : taken_of img ≡ Sound geo) (some : 0 < length buf) (tidy : Tidy geo (size_now geo i img) (inode_at geo i) img) where
+module _ (vol : Volume) (i off : ℕ) (buf img : List ℕ) (geo : Geometry) (t : taken_of img ≡ Ok geo) (some : 0 < length buf) (tidy : Tidy geo (size_now geo i img) (inode_at geo i) img) where
   fr : Frame geo img
   fr = taken-frame img geo t
 

@@ -1,4 +1,5 @@
 -- What is relied on of inode_write once it has answered, said of the file as it was: a tidy file stays tidy, its range reads as the bytes written, its other bytes and every other file are as they were. Assumes nothing.
+use Rattle.std.specs.Prelude.{Some, Ok}
 use mathlib.Core.Path.{◌≡◌, refl, sym, ap, ◌∙◌}
 use mathlib.Core.Bool.{false}
 use mathlib.Core.List.{List}
@@ -14,11 +15,9 @@ use Rattle.store.specs.Act.{got}
 use Rattle.volume.specs.declared.Geometry.{Geometry}
 use Rattle.volume.specs.declared.Volume.{Volume}
 use Rattle.volume.specs.Volume.{inode_at}
-use Rattle.sound.specs.declared.Taken.TheVariants.{Sound}
 use Rattle.sound.specs.Test.{taken_of}
 use Rattle.frame.specs.Frame.{Frame}
 use Rattle.frame.proofs.Places.{inode-is}
-use Rattle.inode.specs.declared.Held.TheVariants as Held
 use Rattle.inode.specs.Size.{held_at}
 use Rattle.inode.specs.Shape.{shape_of, is_link}
 use Rattle.mapping.specs.declared.Place.{Place}
@@ -51,7 +50,7 @@ max-below m n b p q = let l = max-le {a = m} {b = n} {k = b - 1} (omega (arith, 
 -- ---- a byte before the end is the same at both sizes
 
 module _ (geo : Geometry) (at old new : ℕ) (l : old ≤ new) (img : List ℕ) (fr : Frame geo img) (own : Own geo old (addresses geo at img) img) (then : Own geo new (addresses geo at img) img) where
-  size_in : (k e f : ℕ) → held_at geo old k ≡ Held.Bytes e → held_at geo new k ≡ Held.Bytes f → (b : ℕ) → b < e → b < f → byte_in geo img (run_at geo at new img k) b ≡ byte_in geo img (run_at geo at old img k) b
+  size_in : (k e f : ℕ) → held_at geo old k ≡ Some e → held_at geo new k ≡ Some f → (b : ℕ) → b < e → b < f → byte_in geo img (run_at geo at new img k) b ≡ byte_in geo img (run_at geo at old img k) b
   size_in k e f h g b le lf = go (place_of (per_list geo) k) refl
     where
       go : (w : Place) → place_of (per_list geo) k ≡ w → byte_in geo img (run_at geo at new img k) b ≡ byte_in geo img (run_at geo at old img k) b
@@ -102,7 +101,7 @@ pub record Finished (geo : Geometry) (i off : ℕ) (buf x z : List ℕ) : Type 0
   pub others : (w : ℕ) → w < size_now geo i x → (w < off) ⊎ (off + length buf ≤ w) → file_byte geo (inode_at geo i) (size_then geo i x off (length buf)) z w ≡ file_byte geo (inode_at geo i) (size_now geo i x) x w
   pub size : size_now geo i z ≡ size_then geo i x off (length buf)
 
-module _ (vol : Volume) (i off : ℕ) (buf img : List ℕ) (geo : Geometry) (t : taken_of img ≡ Sound geo) (are : Bytes img) (some : 0 < length buf) (tidy : Tidy geo (size_now geo i img) (inode_at geo i) img) (n : ℕ) (o : (inode_write vol i off buf img).out ≡ got n) where
+module _ (vol : Volume) (i off : ℕ) (buf img : List ℕ) (geo : Geometry) (t : taken_of img ≡ Ok geo) (are : Bytes img) (some : 0 < length buf) (tidy : Tidy geo (size_now geo i img) (inode_at geo i) img) (n : ℕ) (o : (inode_write vol i off buf img).out ≡ got n) where
   fr : Frame geo img
   fr = taken-frame img geo t
 
@@ -145,7 +144,7 @@ module _ (vol : Volume) (i off : ℕ) (buf img : List ℕ) (geo : Geometry) (t :
       (λ c d j p q. apart c d j (claim-size geo (size_now geo i img) (size_then geo i img off (length buf)) (addresses geo (inode_at geo i) img) img lengths c j p) q) n o
 
   -- "After a finished write, reading the range gives the bytes written": of a file that is no link, where the volume is still taken
-  pub call-reads : (z : List ℕ) → z ≡ apply_all (inode_write vol i off buf img).stores img → taken_of z ≡ Sound geo → is_link (shape_of geo.order (inode_at geo i) img) ≡ false
+  pub call-reads : (z : List ℕ) → z ≡ apply_all (inode_write vol i off buf img).stores img → taken_of z ≡ Ok geo → is_link (shape_of geo.order (inode_at geo i) img) ≡ false
       → (out : List ℕ) → length out ≡ length buf → inode_read z i off out ≡ (buf, got (length buf))
   call-reads z is taken file out l =
       let w = call-written vol i off buf img geo t own-then n o in

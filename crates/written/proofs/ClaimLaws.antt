@@ -1,4 +1,5 @@
 -- What is claimed lies apart from books, records and what is free; and what stays where nothing claimed is stored. Assumes nothing.
+use Rattle.std.specs.Prelude.{Some, None}
 use mathlib.Core.Path.{◌≡◌, sym, ap, subst, ◌∙◌}
 use mathlib.Core.Bool.{Bool, true, false}
 use mathlib.Core.List.{List}
@@ -13,8 +14,6 @@ use Rattle.volume.specs.declared.Geometry.{Geometry}
 use Rattle.sound.specs.Test.{Sized}
 use Rattle.frame.specs.Frame.{Frame, RunOk}
 use Rattle.frame.proofs.Places.{spots, run_inside, run_past}
-use Rattle.inode.specs.declared.Held.{Held}
-use Rattle.inode.specs.declared.Held.TheVariants as Held
 use Rattle.inode.specs.Size.{pick, extent_of, held_at}
 use Rattle.inode.proofs.SizeLaws.{units}
 use Rattle.mapping.specs.Mapping.{per_list, entry_at}
@@ -39,8 +38,8 @@ held-whole : (geo : Geometry) → Sized geo → (size i : ℕ) → bytes_of (hel
 unfolding held_at
 held-whole geo z size i = go (ltb i (extent_of geo size).blocks) (ltb i ((extent_of geo size).blocks + (extent_of geo size).frags))
   where
-    go : (a b : Bool) → bytes_of (pick a (Held.Bytes geo.bsize) (pick b (Held.Bytes ((extent_of geo size).frags * geo.fsize)) Held.PastEnd)) / geo.fsize * geo.fsize
-        ≡ bytes_of (pick a (Held.Bytes geo.bsize) (pick b (Held.Bytes ((extent_of geo size).frags * geo.fsize)) Held.PastEnd))
+    go : (a b : Bool) → bytes_of (pick a (Some geo.bsize) (pick b (Some ((extent_of geo size).frags * geo.fsize)) None)) / geo.fsize * geo.fsize
+        ≡ bytes_of (pick a (Some geo.bsize) (pick b (Some ((extent_of geo size).frags * geo.fsize)) None))
     go true b = block-whole geo z
     go false true = let u = units geo z in ap (λ (x : ℕ). x * geo.fsize) (mul-div_left (extent_of geo size).frags (omega (arith, u.unit)))
     go false false = let e = (units geo z).unit in ap (λ (x : ℕ). x * geo.fsize) (zero-over e) ∙ zero-mul geo.fsize

@@ -1,4 +1,5 @@
 -- What the mapping says of an index, and the file's byte there, by the place in the file's tree. Assumes nothing.
+use Rattle.std.specs.Prelude.{Option, Some}
 use mathlib.Core.Path.{◌≡◌, refl, sym, ap, subst, ◌∙◌}
 use mathlib.Core.Bool.{Bool, true, false, ◌||◌}
 use mathlib.Core.List.{List}
@@ -14,8 +15,6 @@ use Rattle.volume.specs.declared.Geometry.{Geometry}
 use Rattle.volume.specs.declared.BlockIdx.{BlockIdx}
 use Rattle.sound.specs.Clauses.{reserved_from}
 use Rattle.frame.specs.Frame.{Frame, RunOk, place_okb, run_okb}
-use Rattle.inode.specs.declared.Held.{Held}
-use Rattle.inode.specs.declared.Held.TheVariants as Held
 use Rattle.inode.specs.Size.{pick, held_at}
 use Rattle.mapping.specs.declared.Place.{Place}
 use Rattle.mapping.specs.declared.Place.TheVariants as Place
@@ -153,15 +152,15 @@ module _ (geo : Geometry) (size at : ℕ) (img : List ℕ) (fr : Frame geo img) 
         ∙ down-node geo size top img fr own c.depth r 0 0 c.slot one (omega (arith, p.leaf)) p.valid.slot
         ∙ ap landing (ap (λ (k : ℕ). node geo img (top r) k (0 * per_list geo ^ c.depth + c.slot)) (sym p.leaf) ∙ ap (node geo img (top r) c.depth) z)
 
-    module _ (n : ℕ) (h : held_at geo size i ≡ Held.Bytes n) where
+    module _ (n : ℕ) (h : held_at geo size i ≡ Some n) where
       pub length-there : length_at geo size c ≡ n
       length-there = length_data geo size c p.leaf ∙ ap (λ (k : ℕ). bytes_of (held_at geo size k)) p.index ∙ ap bytes_of h
 
-      abbrev run_is : run_at geo at size img i ≡ run_for geo img (Held.Bytes n) (landing (node_at geo img (addresses geo at img) c))
-      run_is = run-at-is geo at size img i ∙ ap (λ (x : Held). run_for geo img x (mapped geo at img i)) h ∙ ap (run_for geo img (Held.Bytes n)) mapped-node
+      abbrev run_is : run_at geo at size img i ≡ run_for geo img (Some n) (landing (node_at geo img (addresses geo at img) c))
+      run_is = run-at-is geo at size img i ∙ ap (λ (x : Option ℕ). run_for geo img x (mapped geo at img i)) h ∙ ap (run_for geo img (Some n)) mapped-node
 
       pub run-hole : node_at geo img (addresses geo at img) c ≡ 0 → run_at geo at size img i ≡ Run.Hole n
-      run-hole z = run_is ∙ ap (run_for geo img (Held.Bytes n)) (landing_hole (node_at geo img (addresses geo at img) c) z)
+      run-hole z = run_is ∙ ap (run_for geo img (Some n)) (landing_hole (node_at geo img (addresses geo at img) c) z)
 
       -- the first of its bytes is claimed
       pub data-claim : (node_at geo img (addresses geo at img) c ≡ 0 → ⊥) → (k : ℕ) → k < n → Claims geo size (addresses geo at img) img c (node_at geo img (addresses geo at img) c * geo.fsize + k)
@@ -182,8 +181,8 @@ module _ (geo : Geometry) (size at : ℕ) (img : List ℕ) (fr : Frame geo img) 
           go (no l) = ap (λ (r : Run). byte_in geo img r k) (run-there l (omega arith)) ∙ rw (ne_eqb (node_at geo img (addresses geo at img) c) 0 l) refl
 
   -- past the zones nothing is read
-  pub run_past : Place.Past ≡ place_of (per_list geo) i → (n : ℕ) → held_at geo size i ≡ Held.Bytes n → run_at geo at size img i ≡ Run.Bad
-  run_past e n h = run-at-is geo at size img i ∙ ap (λ (x : Held). run_for geo img x (mapped geo at img i)) h ∙ ap (run_for geo img (Held.Bytes n)) (sym (mapped-past geo at img i (per_list geo) refl e))
+  pub run_past : Place.Past ≡ place_of (per_list geo) i → (n : ℕ) → held_at geo size i ≡ Some n → run_at geo at size img i ≡ Run.Bad
+  run_past e n h = run-at-is geo at size img i ∙ ap (λ (x : Option ℕ). run_for geo img x (mapped geo at img i)) h ∙ ap (run_for geo img (Some n)) (sym (mapped-past geo at img i (per_list geo) refl e))
 
 -- a place of data is that of its index
 pub place_indexed : (geo : Geometry) (c : Pos) → Valid geo c → IsData c → Indexed geo (block_index (per_list geo) c.root c.slot) c

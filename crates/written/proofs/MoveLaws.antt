@@ -1,4 +1,5 @@
 -- Steps that keep a file's blocks its own: what one leaves, one after another, and a step that adds one place. Assumes nothing.
+use Rattle.std.specs.Prelude.{Some, None}
 use mathlib.Core.Path.{◌≡◌, sym, ap, subst, ◌∙◌}
 use mathlib.Core.Bool.{Bool, true, false}
 use mathlib.Core.List.{List}
@@ -13,8 +14,6 @@ use Rattle.store.proofs.OnlyLaws.{kept-but_trans, kept-but-more}
 use Rattle.volume.specs.declared.Geometry.{Geometry}
 use Rattle.sound.specs.Test.{Sized}
 use Rattle.frame.specs.Frame.{Frame, RunOk}
-use Rattle.inode.specs.declared.Held.{Held}
-use Rattle.inode.specs.declared.Held.TheVariants as Held
 use Rattle.inode.specs.Size.{pick, extent_of, held_at}
 use Rattle.inode.proofs.SizeLaws.{units, tail-fits}
 use Rattle.mapping.specs.Mapping.{per_list, entry_at}
@@ -32,7 +31,7 @@ pub held-most : (geo : Geometry) → Sized geo → (size i : ℕ) → bytes_of (
 unfolding held_at
 held-most geo z size i = go (ltb i (extent_of geo size).blocks) (ltb i ((extent_of geo size).blocks + (extent_of geo size).frags))
   where
-    go : (a b : Bool) → bytes_of (pick a (Held.Bytes geo.bsize) (pick b (Held.Bytes ((extent_of geo size).frags * geo.fsize)) Held.PastEnd)) ≤ geo.bsize
+    go : (a b : Bool) → bytes_of (pick a (Some geo.bsize) (pick b (Some ((extent_of geo size).frags * geo.fsize)) None)) ≤ geo.bsize
     go true b = omega arith
     go false true = tail-fits geo size z
     go false false = omega arith

@@ -1,4 +1,5 @@
 -- Every other file keeps its record and its bytes through a finished write, where the two share nothing; and two such files share nothing then. Assumes nothing.
+use Rattle.std.specs.Prelude.{Ok}
 use mathlib.Core.Path.{◌≡◌, refl, ap, subst, ◌∙◌}
 use mathlib.Core.List.{List}
 use mathlib.Core.Logic.{⊎_elim}
@@ -15,7 +16,6 @@ use Rattle.volume.specs.declared.Geometry.{Geometry}
 use Rattle.volume.specs.declared.Volume.{Volume}
 use Rattle.volume.specs.Volume.{byte_at, inode_at}
 use Rattle.volume.proofs.Laws.{byte_at-next, inode_at-eq}
-use Rattle.sound.specs.declared.Taken.TheVariants.{Sound}
 use Rattle.sound.specs.Test.{taken_of}
 use Rattle.frame.specs.Frame.{Frame}
 use Rattle.frame.proofs.Places.{order, spots, inode-is}
@@ -133,7 +133,7 @@ module _ (geo : Geometry) (img : List ℕ) (fr : Frame geo img) (i k : ℕ) (ne 
 -- ---- the public call
 
 -- inode_write answered with a number: another inode's file, of its size, keeps its record and its bytes
-pub call_others : (vol : Volume) (i off : ℕ) (buf img : List ℕ) (geo : Geometry) → taken_of img ≡ Sound geo → Own geo (size_then geo i img off (length buf)) (addresses geo (inode_at geo i) img) img
+pub call_others : (vol : Volume) (i off : ℕ) (buf img : List ℕ) (geo : Geometry) → taken_of img ≡ Ok geo → Own geo (size_then geo i img off (length buf)) (addresses geo (inode_at geo i) img) img
     → (k : ℕ) → (i ≡ k → ⊥) → i < geo.ncg * geo.ipg → k < geo.ncg * geo.ipg → (else : ℕ) → Own geo else (addresses geo (inode_at geo k) img) img
     → ((c d : Pos) (j : ℕ) → Claims geo (size_then geo i img off (length buf)) (addresses geo (inode_at geo i) img) img c j → Claims geo else (addresses geo (inode_at geo k) img) img d j → ⊥)
     → (n : ℕ) → (inode_write vol i off buf img).out ≡ got n → Keeps geo (size_then geo i img off (length buf)) (inode_at geo i) else (inode_at geo k) img (apply_all (inode_write vol i off buf img).stores img)

@@ -1,4 +1,5 @@
 -- Bytes put into one block of a file: the file's byte there, and its other bytes. Assumes nothing.
+use Rattle.std.specs.Prelude.{Some}
 use mathlib.Core.Path.{◌≡◌, refl, sym, ap, ◌∙◌}
 use mathlib.Core.Bool.{true}
 use mathlib.Core.List.{List}
@@ -12,8 +13,6 @@ use borrow.Author.Tests.{eq-eqb, ne_eqb}
 use Rattle.store.specs.Where.{Range}
 use Rattle.volume.specs.declared.Geometry.{Geometry}
 use Rattle.frame.specs.Frame.{Frame}
-use Rattle.inode.specs.declared.Held.{Held}
-use Rattle.inode.specs.declared.Held.TheVariants as Held
 use Rattle.inode.specs.Size.{held_at}
 use Rattle.mapping.specs.declared.Place.{Place}
 use Rattle.mapping.specs.declared.Place.TheVariants as Place
@@ -59,7 +58,7 @@ module _ (geo : Geometry) (size at : ℕ) where
     pub here : readable (run_at geo at size z i) ≡ true
     pub reads : (k : ℕ) → k * geo.bsize < size → readable (run_at geo at size x k) ≡ true → readable (run_at geo at size z k) ≡ true
 
-  module _ (x z : List ℕ) (fr : Frame geo x) (own : Own geo size (addresses geo at x) x) (i : ℕ) (c : Pos) (p : Indexed geo i c) (n : ℕ) (h : held_at geo size i ≡ Held.Bytes n)
+  module _ (x z : List ℕ) (fr : Frame geo x) (own : Own geo size (addresses geo at x) x) (i : ℕ) (c : Pos) (p : Indexed geo i c) (n : ℕ) (h : held_at geo size i ≡ Some n)
       (from : ℕ) (bytes : List ℕ) (some : 0 < length bytes) (fits : from + length bytes ≤ n) (most : n ≤ geo.bsize) (reach : i * geo.bsize < size) (m : Put c n from bytes x z) where
     fz : Frame geo z
     fz = m.steady.frame
@@ -76,7 +75,7 @@ module _ (geo : Geometry) (size at : ℕ) where
       same-place : (d : Pos) → Indexed geo k d → (d ≡ c → ⊥) → node_at geo z (addresses geo at z) d ≡ node_at geo x (addresses geo at x) d
       same-place d q ne = m.others d q.leaf q.valid ne
 
-      module _ (e : ℕ) (held : held_at geo size k ≡ Held.Bytes e) where
+      module _ (e : ℕ) (held : held_at geo size k ≡ Some e) where
         still : (d : Pos) → Indexed geo k d → (d ≡ c → ⊥) → (b : ℕ) → b < e → content geo z (node_at geo z (addresses geo at z) d) b ≡ content geo x (node_at geo x (addresses geo at x) d) b
         still d q ne b l = ap (λ (v : ℕ). content geo z v b) (same-place d q ne) ∙ go (ℕ_discrete (node_at geo x (addresses geo at x) d) 0)
           where
@@ -92,7 +91,7 @@ module _ (geo : Geometry) (size at : ℕ) where
             there d q (no ne) = byte-there geo size at z fz m.own k d q e held b l ∙ still d q ne b l ∙ sym (byte-there geo size at x fr own k d q e held b l)
             there d q (yes y) =
                 let is = index-same geo k i d c q p y in
-                let same : e ≡ n = (let w : Held.Bytes e ≡ Held.Bytes n = sym held ∙ ap (held_at geo size) is ∙ h in cc) in
+                let same : e ≡ n = (let w : Some e ≡ Some n = sym held ∙ ap (held_at geo size) is ∙ h in cc) in
                 byte-there geo size at z fz m.own k d q e held b l
                 ∙ ap (λ (d : Pos). content geo z (node_at geo z (addresses geo at z) d) b) y
                 ∙ rw (ne_eqb (node_at geo z (addresses geo at z) c) 0 m.live) (m.beside b (omega (arith, l, same)) (o is))

@@ -1,4 +1,5 @@
 -- inode_write, then inode_read of the same range: the bytes written. Assumes nothing.
+use Rattle.std.specs.Prelude.{Result, Ok}
 use mathlib.Core.Path.{◌≡◌, refl, sym, ap, subst, ◌∙◌}
 use mathlib.Core.Bool.{Bool, true, false, not, ◌&&◌}
 use mathlib.Core.List.{List}
@@ -18,8 +19,6 @@ use Rattle.store.proofs.ActLaws.{refuse-out}
 use Rattle.volume.specs.declared.Geometry.{Geometry}
 use Rattle.volume.specs.declared.Volume.{Volume}
 use Rattle.volume.specs.Volume.{inode_at}
-use Rattle.sound.specs.declared.Taken.{Taken}
-use Rattle.sound.specs.declared.Taken.TheVariants.{Sound}
 use Rattle.sound.specs.Test.{taken_of}
 use Rattle.inode.specs.declared.Shape.{Shape}
 use Rattle.inode.specs.Size.{pick}
@@ -38,6 +37,7 @@ use Rattle.inode_write.specs.Write.{write_at}
 use Rattle.inode_write.specs.Calls.{limit_of, write_judged, write_found, inode_write}
 use Rattle.written.specs.Own.{addresses, Own}
 use Rattle.written.proofs.Theorems.{Written, size_then, call-written}
+use Rattle.refusal.specs.declared.Damage.{Damage}
 
 -- a buffer filled whole
 filled : (bytes out : List ℕ) → length out ≡ length bytes → put 0 bytes out ≡ bytes
@@ -104,7 +104,7 @@ find_again : (geo : Geometry) (i : ℕ) (img z : List ℕ) → {off n : ℕ} →
 unfolding spot_of
 find_again geo i img z g e = find-got geo z i g.number (spot_of geo z i) refl (λ n. g.kind (ap type_of (sym e) ∙ n))
 
-module _ (vol : Volume) (i off : ℕ) (buf img : List ℕ) (geo : Geometry) (t : taken_of img ≡ Sound geo) (some : 0 < length buf) where
+module _ (vol : Volume) (i off : ℕ) (buf img : List ℕ) (geo : Geometry) (t : taken_of img ≡ Ok geo) (some : 0 < length buf) where
   spot-good : (s : Spot) → find_inode geo img i ≡ got s → {n : ℕ} → (write_found geo s off buf img).out ≡ got n → Good geo i off (length buf) img
   unfolding spot_of
   spot-good s e o =
@@ -118,7 +118,7 @@ module _ (vol : Volume) (i off : ℕ) (buf img : List ℕ) (geo : Geometry) (t :
 
   pub call-good : (n : ℕ) → (inode_write vol i off buf img).out ≡ got n → Good geo i off (length buf) img
   unfolding inode_write writing choose
-  call-good n o = subst (λ (w : Taken). (entering vol work w img).out ≡ got n → Good geo i off (length buf) img) (sym t) (by vol.writable) o
+  call-good n o = subst (λ (w : Result Geometry Damage). (entering vol work w img).out ≡ got n → Good geo i off (length buf) img) (sym t) (by vol.writable) o
     where
       work : Geometry → Act ℕ
       work geo = λ img. given (find_inode geo img i) (λ s. write_found geo s off buf) img
@@ -134,7 +134,7 @@ module _ (vol : Volume) (i off : ℕ) (buf img : List ℕ) (geo : Geometry) (t :
 -- ---- the read
 
 -- of an inode that is found, all the bytes asked for
-module _ (geo : Geometry) (i off : ℕ) (buf z : List ℕ) (t : taken_of z ≡ Sound geo) (some : 0 < length buf) (g : find_inode geo z i ≡ got (spot_of geo z i)) where
+module _ (geo : Geometry) (i off : ℕ) (buf z : List ℕ) (t : taken_of z ≡ Ok geo) (some : 0 < length buf) (g : find_inode geo z i ≡ got (spot_of geo z i)) where
   place-then : place_in z i ≡ got (record { geo = geo; spot = spot_of geo z i })
   unfolding place_in reading
   place-then = rw (t, g) refl
@@ -149,9 +149,9 @@ module _ (geo : Geometry) (i off : ℕ) (buf z : List ℕ) (t : taken_of z ≡ S
       ∙ rw (ne_eqb (length buf) 0 (λ y. let f : ⊥ = omega (arith, y, some) in f), plain, has, e) (r ∙ ap (λ (bs : List ℕ). (bs, got (length buf))) (filled buf out l))
 
 -- "After a finished write, reading the range gives the bytes written": where the volume is still taken, and the inode's text is not in its record
-pub call_read : (vol : Volume) (i off : ℕ) (buf img : List ℕ) (geo : Geometry) → taken_of img ≡ Sound geo → Own geo (size_then geo i img off (length buf)) (addresses geo (inode_at geo i) img) img
+pub call_read : (vol : Volume) (i off : ℕ) (buf img : List ℕ) (geo : Geometry) → taken_of img ≡ Ok geo → Own geo (size_then geo i img off (length buf)) (addresses geo (inode_at geo i) img) img
     → 0 < length buf → size_then geo i img off (length buf) < 256 ^ 8 → (n : ℕ) → (inode_write vol i off buf img).out ≡ got n
-    → (z : List ℕ) → z ≡ apply_all (inode_write vol i off buf img).stores img → taken_of z ≡ Sound geo → in_place (shape_of geo.order (inode_at geo i) z) ≡ false
+    → (z : List ℕ) → z ≡ apply_all (inode_write vol i off buf img).stores img → taken_of z ≡ Ok geo → in_place (shape_of geo.order (inode_at geo i) z) ≡ false
     → (out : List ℕ) → length out ≡ length buf → inode_read z i off out ≡ (buf, got (length buf))
 call_read vol i off buf img geo t own some small n o z is taken plain out l =
     let w : Written geo (size_then geo i img off (length buf)) (inode_at geo i) off buf img z = subst (Written geo (size_then geo i img off (length buf)) (inode_at geo i) off buf img) (sym is) (call-written vol i off buf img geo t own n o) in

@@ -1,4 +1,5 @@
 -- Written, then read: of a file whose blocks are its own, a finished write's range reads as the bytes written, the file's other bytes are as they were, and its blocks are still its own. Assumes nothing.
+use Rattle.std.specs.Prelude.{Some, Result, Ok}
 use mathlib.Core.Path.{◌≡◌, refl, sym, ap, subst, ◌∙◌}
 use mathlib.Core.Bool.{Bool, true, false, not}
 use mathlib.Core.List.{List, [], ◌∷◌}
@@ -23,11 +24,8 @@ use Rattle.store.proofs.OnlyLaws.{kept-but-store}
 use Rattle.volume.specs.declared.Geometry.{Geometry}
 use Rattle.volume.specs.declared.Volume.{Volume}
 use Rattle.volume.specs.Volume.{inode_at}
-use Rattle.sound.specs.declared.Taken.{Taken}
-use Rattle.sound.specs.declared.Taken.TheVariants.{Sound}
 use Rattle.sound.specs.Test.{taken_of}
 use Rattle.frame.specs.Frame.{Frame}
-use Rattle.inode.specs.declared.Held.TheVariants as Held
 use Rattle.inode.specs.Size.{held_at}
 use Rattle.inode.specs.Shape.{shape_of, address_at}
 use Rattle.inode.specs.Places.{size_write, blocks_at}
@@ -64,12 +62,13 @@ use Rattle.written.proofs.RootOwn.{as-stored, record-moved, table-inside}
 use Rattle.written.proofs.MapOwn.{Indexed, indexed, content, data-claim, byte-there, run_past}
 use Rattle.written.proofs.TouchLaws.{Touched, touched-trans, stays-touched}
 use Rattle.written.proofs.LoopOwn.{Wrote, blocks-wrote}
+use Rattle.refusal.specs.declared.Damage.{Damage}
 
 -- ---- two images with one tree and one set of data read alike
 
 module _ (geo : Geometry) (size at : ℕ) (x z : List ℕ) (fr : Frame geo x) (fz : Frame geo z) (own : Own geo size (addresses geo at x) x) (then : Own geo size (addresses geo at z) z)
     (nodes : (d : Pos) → Valid geo d → node_at geo z (addresses geo at z) d ≡ node_at geo x (addresses geo at x) d) (kept : (d : Pos) (j : ℕ) → Claims geo size (addresses geo at x) x d j → get_or z j 0 ≡ get_or x j 0) where
-  alike-in : (k e : ℕ) → held_at geo size k ≡ Held.Bytes e → (b : ℕ) → b < e → byte_in geo z (run_at geo at size z k) b ≡ byte_in geo x (run_at geo at size x k) b
+  alike-in : (k e : ℕ) → held_at geo size k ≡ Some e → (b : ℕ) → b < e → byte_in geo z (run_at geo at size z k) b ≡ byte_in geo x (run_at geo at size x k) b
   alike-in k e held b l = go (place_of (per_list geo) k) refl
     where
       still : (d : Pos) → Indexed geo k d → Dec (node_at geo x (addresses geo at x) d ≡ 0) → content geo z (node_at geo x (addresses geo at x) d) b ≡ content geo x (node_at geo x (addresses geo at x) d) b
@@ -278,7 +277,7 @@ found-written geo s t off buf x fr own {n} o = go (write_judged geo s off (lengt
 abbrev pub size_then : Geometry → ℕ → List ℕ → ℕ → ℕ → ℕ
 size_then geo i img off n = max (shape_of geo.order (inode_at geo i) img).size (off + n)
 
-module _ (vol : Volume) (i off : ℕ) (buf img : List ℕ) (geo : Geometry) (t : taken_of img ≡ Sound geo) (own : Own geo (size_then geo i img off (length buf)) (addresses geo (inode_at geo i) img) img) where
+module _ (vol : Volume) (i off : ℕ) (buf img : List ℕ) (geo : Geometry) (t : taken_of img ≡ Ok geo) (own : Own geo (size_then geo i img off (length buf)) (addresses geo (inode_at geo i) img) img) where
   spot-written : (s : Spot) → find_inode geo img i ≡ got s → {n : ℕ} → (write_found geo s off buf img).out ≡ got n → Written geo (size_then geo i img off (length buf)) (inode_at geo i) off buf img (apply_all (write_found geo s off buf img).stores img)
   unfolding spot_of
   spot-written s e o =
@@ -291,7 +290,7 @@ module _ (vol : Volume) (i off : ℕ) (buf img : List ℕ) (geo : Geometry) (t :
   -- inode_write on a volume that is taken, answered with a number and not refused
   pub call-written : (n : ℕ) → (inode_write vol i off buf img).out ≡ got n → Written geo (size_then geo i img off (length buf)) (inode_at geo i) off buf img (apply_all (inode_write vol i off buf img).stores img)
   unfolding inode_write writing choose
-  call-written n o = subst (λ (w : Taken). (entering vol work w img).out ≡ got n → Written geo (size_then geo i img off (length buf)) (inode_at geo i) off buf img (apply_all (entering vol work w img).stores img)) (sym t) (by vol.writable) o
+  call-written n o = subst (λ (w : Result Geometry Damage). (entering vol work w img).out ≡ got n → Written geo (size_then geo i img off (length buf)) (inode_at geo i) off buf img (apply_all (entering vol work w img).stores img)) (sym t) (by vol.writable) o
     where
       work : Geometry → Act ℕ
       work geo = λ img. given (find_inode geo img i) (λ s. write_found geo s off buf) img

@@ -1,4 +1,5 @@
 -- One block of a write, finished: its bytes are the file's there, the file's other bytes are as they were, and its blocks are still its own. Assumes nothing.
+use Rattle.std.specs.Prelude.{Option, Some}
 use mathlib.Core.Path.{◌≡◌, refl, sym, ap, subst, ◌∙◌}
 use mathlib.Core.List.{List}
 use Prim.Native.Nat.{ℕ, zero, ◌+◌, ◌*◌, ◌≤◌, ◌<◌}
@@ -14,8 +15,6 @@ use Rattle.store.proofs.OnlyLaws.{kept-but-refl}
 use Rattle.volume.specs.declared.Geometry.{Geometry}
 use Rattle.frame.specs.Frame.{Frame}
 use Rattle.bits.proofs.BitsLaws.{frag-some}
-use Rattle.inode.specs.declared.Held.{Held}
-use Rattle.inode.specs.declared.Held.TheVariants as Held
 use Rattle.inode.specs.Size.{held_at}
 use Rattle.mapping.specs.declared.Place.{Place}
 use Rattle.mapping.specs.declared.Place.TheVariants as Place
@@ -63,7 +62,7 @@ module _ (geo : Geometry) (size at : ℕ) (t : InTable geo at) where
       (subst (λ (w : Place). (set_at geo at a held w x).out ≡ got u) (sym p.place) o) in
       subst (λ (w : Place). Moved (Tail at) geo size c a (addresses geo at x) x (addresses geo at (apply_all (set_at geo at a held w x).stores x)) (apply_all (set_at geo at a held w x).stores x)) p.place m
 
-  module _ (x : List ℕ) (fr : Frame geo x) (own : Own geo size (addresses geo at x) x) (i : ℕ) (c : Pos) (p : Indexed geo i c) (n : ℕ) (h : held_at geo size i ≡ Held.Bytes n)
+  module _ (x : List ℕ) (fr : Frame geo x) (own : Own geo size (addresses geo at x) x) (i : ℕ) (c : Pos) (p : Indexed geo i c) (n : ℕ) (h : held_at geo size i ≡ Some n)
       (from : ℕ) (bytes : List ℕ) (some : 0 < length bytes) (fits : from + length bytes ≤ n) (most : n ≤ geo.bsize) where
     -- ---- a hole
 
@@ -139,7 +138,7 @@ module _ (geo : Geometry) (size at : ℕ) (t : InTable geo at) where
       cover = held-covers geo fr.sizes size i (from + length bytes) (omega arith) room inside
 
       most : cover.held ≤ geo.bsize
-      most = subst (λ (h : Held). bytes_of h ≤ geo.bsize) cover.is (held-most geo fr.sizes size i)
+      most = subst (λ (h : Option ℕ). bytes_of h ≤ geo.bsize) cover.is (held-most geo fr.sizes size i)
 
       go : (w : Place) → place_of (per_list geo) i ≡ w → Turned geo size at i from bytes x (apply_all (write_run geo at i from bytes held (run_at geo at size x i) x).stores x)
       go (Place.Under root level rest) e =

@@ -1,4 +1,5 @@
 -- Writing to a file whose blocks are its own, cut after any store or refused, changes nothing but maps and counts, the record, what was free and the file's own blocks. Assumes nothing.
+use Rattle.std.specs.Prelude.{Option, Some}
 use mathlib.Core.Path.{◌≡◌, refl, sym, subst}
 use mathlib.Core.List.{List}
 use mathlib.Core.Logic.{⊎_elim}
@@ -18,8 +19,6 @@ use Rattle.store.proofs.AlwaysLaws.{always-all, always-bind, always-pure, always
 use Rattle.store.proofs.OnlyLaws.{kept-but-refl, kept-but_trans, kept-but-more, kept-but-store}
 use Rattle.volume.specs.declared.Geometry.{Geometry}
 use Rattle.frame.specs.Frame.{Frame}
-use Rattle.inode.specs.declared.Held.{Held}
-use Rattle.inode.specs.declared.Held.TheVariants as Held
 use Rattle.inode.specs.Size.{held_at}
 use Rattle.inode.specs.Shape.{address_at}
 use Rattle.mapping.specs.declared.Place.{Place}
@@ -120,7 +119,7 @@ module _ (geo : Geometry) (size at : ℕ) (t : InTable geo at) where
   given-within (got a) f k q = q a
   given-within {B = B} (refused e) f k q = always-refuse B e k
 
-  module _ (x : List ℕ) (fr : Frame geo x) (own : Own geo size (addresses geo at x) x) (i : ℕ) (c : Pos) (p : Indexed geo i c) (n : ℕ) (h : held_at geo size i ≡ Held.Bytes n)
+  module _ (x : List ℕ) (fr : Frame geo x) (own : Own geo size (addresses geo at x) x) (i : ℕ) (c : Pos) (p : Indexed geo i c) (n : ℕ) (h : held_at geo size i ≡ Some n)
       (from : ℕ) (bytes : List ℕ) (some : 0 < length bytes) (fits : from + length bytes ≤ n) (most : n ≤ geo.bsize) where
     hole-within : node_at geo x (addresses geo at x) c ≡ 0 → (held : ℕ) → Within x (fill_hole geo at i n from bytes held) x
     unfolding fill_hole fill_given
@@ -155,7 +154,7 @@ module _ (geo : Geometry) (size at : ℕ) (t : InTable geo at) where
       cover = held-covers geo fr.sizes size i (from + length bytes) (omega arith) room inside
 
       most : cover.held ≤ geo.bsize
-      most = subst (λ (h : Held). bytes_of h ≤ geo.bsize) cover.is (held-most geo fr.sizes size i)
+      most = subst (λ (h : Option ℕ). bytes_of h ≤ geo.bsize) cover.is (held-most geo fr.sizes size i)
 
       by : (c : Pos) → Indexed geo i c → Dec (node_at geo x (addresses geo at x) c ≡ 0) → Within x (write_run geo at i from bytes held (run_at geo at size x i)) x
       by c p (yes z) =

@@ -1,10 +1,8 @@
 -- A file whose blocks are its own: every byte that its record leads to is claimed once, and by nothing that is free. Assumes nothing: these are definitions.
-use Rattle.std.specs.Prelude.{◌≡◌, List, ℕ, zero, suc, ◌+◌, ◌-◌, ◌*◌, ◌/◌, ◌%◌, ◌^◌, ◌≤◌, ◌<◌, eqb, ltb}
+use Rattle.std.specs.Prelude.{◌≡◌, List, ℕ, zero, suc, ◌+◌, ◌-◌, ◌*◌, ◌/◌, ◌%◌, ◌^◌, ◌≤◌, ◌<◌, eqb, ltb, Option, Some, None}
 use Rattle.store.specs.Where.{Range}
 use Rattle.volume.specs.declared.Geometry.{Geometry}
 use Rattle.frame.specs.Frame.{RunOk}
-use Rattle.inode.specs.declared.Held.{Held}
-use Rattle.inode.specs.declared.Held.TheVariants as Held
 use Rattle.inode.specs.Size.{pick, held_at}
 use Rattle.inode.specs.Shape.{address_at}
 use Rattle.mapping.specs.Zones.{zone_start}
@@ -48,9 +46,9 @@ addresses geo at img k = address_at geo.order at k img
 abbrev pub block_index : ℕ → ℕ → ℕ → ℕ
 block_index p root slot = pick (ltb root 12) root (zone_start p (root - 11) + slot)
 
-abbrev pub bytes_of : Held → ℕ
-bytes_of (Held.Bytes n) = n
-bytes_of Held.PastEnd = 0
+abbrev pub bytes_of : Option ℕ → ℕ
+bytes_of (Some n) = n
+bytes_of None = 0
 
 -- how many bytes lie there: a list is a whole block, data what a file of that size holds
 unfoldable pub length_at : Geometry → ℕ → Pos → ℕ

@@ -1,4 +1,5 @@
 -- The laws of `specs/Area.antt`: each test of the area, where it lies, and its bytes in two parts. Assumes nothing.
+use Rattle.std.specs.Prelude.{Result, Ok, Err}
 use mathlib.Core.Path.{◌≡◌, refl, sym, ap, ◌∙◌}
 use mathlib.Core.Bool.{Bool, true, false, not, ◌&&◌}
 use mathlib.Core.List.{List, ◌++◌}
@@ -18,30 +19,28 @@ use Rattle.inode.specs.Size.{pick}
 use Rattle.inode.specs.Places.{extsize_at}
 use Rattle.inode.proofs.SizeLaws.{units}
 use Rattle.xattr.specs.declared.Area.{Area}
-use Rattle.xattr.specs.declared.Block.{Block}
-use Rattle.xattr.specs.declared.Block.TheVariants as Block
-use Rattle.xattr.specs.declared.Lies.{Lies}
-use Rattle.xattr.specs.declared.Lies.TheVariants as Lies
 use Rattle.xattr.specs.Area.{extb, block_ok, block_at, joined, area_sized, area_of, gathered, Inside}
+use Rattle.refusal.specs.Refusal.{damage}
+use Rattle.refusal.specs.declared.Damage.{Damage}
 
 -- ---- one block
 
 module _ (geo : Geometry) (at : ℕ) (img : List ℕ) (j n : ℕ) where
-  pub block_none : n ≡ 0 → block_at geo at img j n ≡ Block.At 0
+  pub block_none : n ≡ 0 → block_at geo at img j n ≡ Ok 0
   unfolding block_at
   block_none z = rw (eq-eqb n 0 z)
 
   module _ (some : n ≡ 0 → ⊥) (a : ℕ) (is : a ≡ extb geo at img j) where
-    pub block-zero : a ≡ 0 → block_at geo at img j n ≡ Block.Bad
+    pub block-zero : a ≡ 0 → block_at geo at img j n ≡ Err damage
     unfolding block_at block_ok
     block-zero z = rw (ne_eqb n 0 some, ← is, eq-eqb a 0 z)
 
     module _ (there : a ≡ 0 → ⊥) (f : ℕ) (frags : f ≡ (n + (geo.fsize - 1)) / geo.fsize) where
-      pub block-hit : run_okb geo img a f ≡ true → (x : ℕ) → x ≡ a * geo.fsize → Block.At x ≡ block_at geo at img j n
+      pub block-hit : run_okb geo img a f ≡ true → (x : ℕ) → x ≡ a * geo.fsize → Ok x ≡ block_at geo at img j n
       unfolding block_at block_ok
       block-hit e x q = rw (ne_eqb n 0 some, ← is, ne_eqb a 0 there, ← frags, e, q)
 
-      pub block-miss : run_okb geo img a f ≡ false → Block.Bad ≡ block_at geo at img j n
+      pub block-miss : run_okb geo img a f ≡ false → Err damage ≡ block_at geo at img j n
       unfolding block_at block_ok
       block-miss e = rw (ne_eqb n 0 some, ← is, ne_eqb a 0 there, ← frags, e)
 
@@ -58,24 +57,24 @@ module _ (geo : Geometry) (at : ℕ) (img : List ℕ) (j n : ℕ) where
       omega arith
 
   -- where it begins, the bytes needed lie in the image
-  pub block_inside : Frame geo img → (x : ℕ) → block_at geo at img j n ≡ Block.At x → x + n ≤ length img
+  pub block_inside : Frame geo img → (x : ℕ) → block_at geo at img j n ≡ Ok x → x + n ≤ length img
   unfolding block_at block_ok
   block_inside fr x e = none (eqb n 0) refl e
     where
-      contra : Block.Bad ≡ Block.At x → x + n ≤ length img
+      contra : (Err damage) ≡ Ok x → x + n ≤ length img
       contra h = absurd (let z : ◌≡◌ {A = ℕ} 0 1 = cc in let y : ⊥ = omega arith in y)
 
       run : (r : Bool) → run_okb geo img (extb geo at img j) ((n + (geo.fsize - 1)) / geo.fsize) ≡ r
-          → pick r (Block.At (extb geo at img j * geo.fsize)) Block.Bad ≡ Block.At x → x + n ≤ length img
+          → pick r (Ok (extb geo at img j * geo.fsize)) (Err damage) ≡ Ok x → x + n ≤ length img
       run true t h = let q : extb geo at img j * geo.fsize ≡ x = cc in omega (arith, run_holds fr (extb geo at img j) t)
       run false t h = contra h
 
-      there : (t : Bool) → pick (not t && run_okb geo img (extb geo at img j) ((n + (geo.fsize - 1)) / geo.fsize)) (Block.At (extb geo at img j * geo.fsize)) Block.Bad ≡ Block.At x → x + n ≤ length img
+      there : (t : Bool) → pick (not t && run_okb geo img (extb geo at img j) ((n + (geo.fsize - 1)) / geo.fsize)) (Ok (extb geo at img j * geo.fsize)) (Err damage) ≡ Ok x → x + n ≤ length img
       there true h = contra h
       there false h = run (run_okb geo img (extb geo at img j) ((n + (geo.fsize - 1)) / geo.fsize)) refl h
 
       none : (t : Bool) → eqb n 0 ≡ t
-          → pick t (Block.At 0) (pick (not (eqb (extb geo at img j) 0) && run_okb geo img (extb geo at img j) ((n + (geo.fsize - 1)) / geo.fsize)) (Block.At (extb geo at img j * geo.fsize)) Block.Bad) ≡ Block.At x
+          → pick t (Ok 0) (pick (not (eqb (extb geo at img j) 0) && run_okb geo img (extb geo at img j) ((n + (geo.fsize - 1)) / geo.fsize)) (Ok (extb geo at img j * geo.fsize)) (Err damage)) ≡ Ok x
           → x + n ≤ length img
       none true t h = let q : ◌≡◌ {A = ℕ} 0 x = cc in omega (arith, eqb-true n 0 t)
       none false t h = there (eqb (extb geo at img j) 0) h
@@ -83,7 +82,7 @@ module _ (geo : Geometry) (at : ℕ) (img : List ℕ) (j n : ℕ) where
 -- ---- the two blocks
 
 module _ (geo : Geometry) (at : ℕ) (img : List ℕ) (size : ℕ) where
-  pub area-large : 2 * geo.bsize ≤ size → area_sized geo at img size ≡ Lies.Bad
+  pub area-large : 2 * geo.bsize ≤ size → area_sized geo at img size ≡ Err damage
   unfolding area_sized
   area-large h = rw (le-ltb size (2 * geo.bsize) h)
 
@@ -93,52 +92,52 @@ module _ (geo : Geometry) (at : ℕ) (img : List ℕ) (size : ℕ) where
   area-joined h split q = rw (lt-ltb size (2 * geo.bsize) h, q)
 
   pub area-both : size < 2 * geo.bsize → (split : ℕ) → split ≡ min size geo.bsize → (x y : ℕ)
-      → Block.At x ≡ block_at geo at img 0 split → Block.At y ≡ block_at geo at img 1 (size - split)
-      → Lies.In (record { size = size; split = split; first = x; second = y }) ≡ area_sized geo at img size
+      → Ok x ≡ block_at geo at img 0 split → Ok y ≡ block_at geo at img 1 (size - split)
+      → Ok (record { size = size; split = split; first = x; second = y }) ≡ area_sized geo at img size
   area-both h split q x y e f = sym (area-joined h split q ∙ rw (← e, ← f))
 
   pub area-second-bad : size < 2 * geo.bsize → (split : ℕ) → split ≡ min size geo.bsize → (x : ℕ)
-      → Block.At x ≡ block_at geo at img 0 split → Block.Bad ≡ block_at geo at img 1 (size - split) → Lies.Bad ≡ area_sized geo at img size
+      → Ok x ≡ block_at geo at img 0 split → Err damage ≡ block_at geo at img 1 (size - split) → Err damage ≡ area_sized geo at img size
   area-second-bad h split q x e f = sym (area-joined h split q ∙ rw (← e, ← f))
 
-  first-bad : (y : Block) (split : ℕ) → joined size split Block.Bad y ≡ Lies.Bad
-  first-bad (Block.At y) split = refl
-  first-bad Block.Bad split = refl
+  first-bad : (y : Result ℕ Damage) (split : ℕ) → joined size split (Err damage) y ≡ Err damage
+  first-bad (Ok y) split = refl
+  first-bad (Err harm) split = refl
 
-  pub area-first-bad : size < 2 * geo.bsize → (split : ℕ) → split ≡ min size geo.bsize → Block.Bad ≡ block_at geo at img 0 split → Lies.Bad ≡ area_sized geo at img size
+  pub area-first-bad : size < 2 * geo.bsize → (split : ℕ) → split ≡ min size geo.bsize → Err damage ≡ block_at geo at img 0 split → Err damage ≡ area_sized geo at img size
   area-first-bad h split q e = sym (area-joined h split q ∙ rw (← e) (first-bad (block_at geo at img 1 (size - split)) split))
 
   -- an area that is taken lies in the image, and is as large as was asked
-  pub sized_inside : Frame geo img → (a : Area) → area_sized geo at img size ≡ Lies.In a → Inside a img × (a.size ≡ size)
+  pub sized_inside : Frame geo img → (a : Area) → area_sized geo at img size ≡ Ok a → Inside a img × (a.size ≡ size)
   unfolding area_sized
   sized_inside fr a e = fits (ltb size (2 * geo.bsize)) refl e
     where
-      contra : Lies.Bad ≡ Lies.In a → Inside a img × (a.size ≡ size)
+      contra : (Err damage) ≡ Ok a → Inside a img × (a.size ≡ size)
       contra h = absurd (let z : ◌≡◌ {A = ℕ} 0 1 = cc in let y : ⊥ = omega arith in y)
 
-      both : size < 2 * geo.bsize → (split : ℕ) → split ≡ min size geo.bsize → (x y : Block) → block_at geo at img 0 split ≡ x → block_at geo at img 1 (size - split) ≡ y
-          → joined size split x y ≡ Lies.In a → Inside a img × (a.size ≡ size)
-      both l split q (Block.At x) (Block.At y) f g h =
+      both : size < 2 * geo.bsize → (split : ℕ) → split ≡ min size geo.bsize → (x y : Result ℕ Damage) → block_at geo at img 0 split ≡ x → block_at geo at img 1 (size - split) ≡ y
+          → joined size split x y ≡ Ok a → Inside a img × (a.size ≡ size)
+      both l split q (Ok x) (Ok y) f g h =
           let b = units geo fr.sizes in
           let i = block_inside geo at img 0 split fr x f in
           let k = block_inside geo at img 1 (size - split) fr y g in
           let v : ◌≡◌ {A = Area} (record { size = size; split = split; first = x; second = y }) a = cc in
           rw (← v) (record { split = omega arith; first = i; second = k; small = omega (arith, b.block_top); image = fr.laid.high }, refl)
-      both l split q (Block.At x) Block.Bad f g h = contra h
-      both l split q Block.Bad (Block.At y) f g h = contra h
-      both l split q Block.Bad Block.Bad f g h = contra h
+      both l split q (Ok x) (Err harm) f g h = contra h
+      both l split q (Err harm) (Ok y) f g h = contra h
+      both l split q (Err harm) (Err worse) f g h = contra h
 
       fits : (t : Bool) → ltb size (2 * geo.bsize) ≡ t
-          → pick t (joined size (min size geo.bsize) (block_at geo at img 0 (min size geo.bsize)) (block_at geo at img 1 (size - min size geo.bsize))) Lies.Bad ≡ Lies.In a
+          → pick t (joined size (min size geo.bsize) (block_at geo at img 0 (min size geo.bsize)) (block_at geo at img 1 (size - min size geo.bsize))) (Err damage) ≡ Ok a
           → Inside a img × (a.size ≡ size)
       fits true t h = both (ltb-true size (2 * geo.bsize) t) (min size geo.bsize) refl _ _ refl refl h
       fits false t h = contra h
 
-pub area-inside : (geo : Geometry) (at : ℕ) (img : List ℕ) → Frame geo img → (a : Area) → area_of geo at img ≡ Lies.In a → Inside a img × (a.size ≡ extsize_at geo.order at img)
+pub area-inside : (geo : Geometry) (at : ℕ) (img : List ℕ) → Frame geo img → (a : Area) → area_of geo at img ≡ Ok a → Inside a img × (a.size ≡ extsize_at geo.order at img)
 unfolding area_of
 area-inside geo at img fr a e = sized_inside geo at img (extsize_at geo.order at img) fr a e
 
-pub area-is : (geo : Geometry) (at : ℕ) (img : List ℕ) (size : ℕ) (r : Lies) → size ≡ extsize_at geo.order at img → r ≡ area_sized geo at img size → r ≡ area_of geo at img
+pub area-is : (geo : Geometry) (at : ℕ) (img : List ℕ) (size : ℕ) (r : Result Area Damage) → size ≡ extsize_at geo.order at img → r ≡ area_sized geo at img size → r ≡ area_of geo at img
 unfolding area_of
 area-is geo at img size r q e = e ∙ rw q
 

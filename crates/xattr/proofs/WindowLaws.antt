@@ -1,4 +1,5 @@
 -- A part of the area that was copied out reads as the area does. Assumes nothing.
+use Rattle.std.specs.Prelude.{None, Ok}
 use mathlib.Core.Path.{◌≡◌, refl, sym, ap, ◌∙◌}
 use mathlib.Core.Bool.{Bool, ◌&&◌}
 use mathlib.Core.List.{List}
@@ -12,7 +13,6 @@ use Rattle.field.specs.Field.{num, part, put, value, turn}
 use Rattle.field.proofs.Laws.{length-part, length-put, get_or-part, part-put}
 use Rattle.dirblock.specs.Search.{same_name}
 use Rattle.attrrec.specs.declared.Entry.{Entry}
-use Rattle.attrrec.specs.declared.Attr.TheVariants.{End}
 use Rattle.attrrec.specs.Record.{entry_at, name_at, judged, attr_at}
 use Rattle.attrrec.specs.Text.{known, text_of}
 use Rattle.attrrec.specs.Search.{named}
@@ -53,7 +53,7 @@ entry_window o b xs now r l e =
 -- ---- what the walk meets
 
 module _ (o : Order) (a : Area) (img : List ℕ) (i : Inside a img) (b left : ℕ) (rest : left ≡ a.size - b) where
-  pub met-tail : left < 7 → attr_at o (gathered a img) b ≡ End
+  pub met-tail : left < 7 → attr_at o (gathered a img) b ≡ Ok None
   met-tail h =
       attr-judged o (gathered a img) b left (entry_at o b (gathered a img)) (rest ∙ ap (λ (n : ℕ). n - b) (sym (length-gathered a img i))) refl
       ∙ judged-tail b left (entry_at o b (gathered a img)) h

@@ -1,103 +1,94 @@
 -- 01, "Directory records and attributes": the public calls, with the order of refusals. Assumes nothing: these are definitions.
-use Rattle.std.specs.Prelude.{List, ℕ, ◌+◌, ◌-◌, length, ltb}
+use Rattle.std.specs.Prelude.{List, ℕ, ◌+◌, length, ltb, Option, Some, None, Result, Ok, Err}
 use Rattle.field.specs.Field.{put}
 use Rattle.refusal.specs.declared.Refusal.TheVariants.{Damaged, NoAttribute, BufferTooSmall}
 use Rattle.volume.specs.declared.Geometry.{Geometry}
 use Rattle.inode.specs.Size.{pick}
 use Rattle.inode.specs.Places.{extsize_at}
-use Rattle.inode_read.specs.declared.Known.{Known}
-use Rattle.inode_read.specs.declared.Known.TheVariants as Known
 use Rattle.inode_read.specs.Calls.{place_in, known_of}
 use Rattle.attrrec.specs.declared.Entry.{Entry}
-use Rattle.attrrec.specs.declared.Find.{Find}
-use Rattle.attrrec.specs.declared.Find.TheVariants as Find
 use Rattle.attrrec.specs.Record.{gap, value_len}
 use Rattle.attrrec.specs.Search.{find_in, Texts, texts, bad, list_in}
 use Rattle.xattr.specs.declared.Area.{Area}
-use Rattle.xattr.specs.declared.Lies.{Lies}
-use Rattle.xattr.specs.declared.Lies.TheVariants as Lies
-use Rattle.xattr.specs.declared.Hit.{Hit}
-use Rattle.xattr.specs.declared.Hit.TheVariants as Hit
-use Rattle.xattr.specs.declared.Length.{Length}
-use Rattle.xattr.specs.declared.Length.TheVariants as Length
-use Rattle.xattr.specs.declared.Value.{Value}
-use Rattle.xattr.specs.declared.Value.TheVariants as Value
 use Rattle.xattr.specs.Area.{area_of, gathered}
+use Rattle.inode_run.specs.declared.Spot.{Spot}
+use Rattle.refusal.specs.declared.Damage.{Damage}
+use Rattle.refusal.specs.declared.Refusal.{Refusal}
 
 -- ---- one attribute, by its text
 
 -- "87: no such attribute"; lengths that do not fit are 97
-abbrev pub hit_of : Area → Find → Hit
-hit_of a (Find.At b e) = Hit.At a b e
-hit_of a Find.Absent = Hit.No NoAttribute
-hit_of a Find.Bad = Hit.No Damaged
+abbrev pub hit_of : Area → Result (Option (ℕ × Entry)) Damage → Result (Area × ℕ × Entry) Refusal
+hit_of a (Ok (Some (b, e))) = Ok (a, b, e)
+hit_of a (Ok None) = Err NoAttribute
+hit_of a (Err harm) = Err Damaged
 
-abbrev pub hit_in : Geometry → List ℕ → List ℕ → Lies → Hit
-hit_in geo img name (Lies.In a) = hit_of a (find_in geo.order (gathered a img) name)
-hit_in geo img name Lies.Bad = Hit.No Damaged
+abbrev pub hit_in : Geometry → List ℕ → List ℕ → Result Area Damage → Result (Area × ℕ × Entry) Refusal
+hit_in geo img name (Ok a) = hit_of a (find_in geo.order (gathered a img) name)
+hit_in geo img name (Err harm) = Err Damaged
 
 -- of the inode whose record is at `at`
-unfoldable pub hit_at : Geometry → ℕ → List ℕ → List ℕ → Hit
+unfoldable pub hit_at : Geometry → ℕ → List ℕ → List ℕ → Result (Area × ℕ × Entry) Refusal
 hit_at geo at img name = hit_in geo img name (area_of geo at img)
 
-abbrev pub hit_known : List ℕ → List ℕ → Known → Hit
-hit_known img name (Known.At geo s) = hit_at geo s.at img name
-hit_known img name (Known.No e) = Hit.No e
+abbrev pub hit_known : List ℕ → List ℕ → Result (Geometry × Spot) Refusal → Result (Area × ℕ × Entry) Refusal
+hit_known img name (Ok (geo, s)) = hit_at geo s.at img name
+hit_known img name (Err e) = Err e
 
 -- the tests of both calls that name an attribute, in their order
-unfoldable pub read_xattr : List ℕ → ℕ → List ℕ → Hit
+unfoldable pub read_xattr : List ℕ → ℕ → List ℕ → Result (Area × ℕ × Entry) Refusal
 read_xattr img i name = hit_known img name (known_of (place_in img i))
 
 -- ---- xattr_list_len: "is extsize, as the Rust"
 
-abbrev pub extsize_known : List ℕ → Known → Length
-extsize_known img (Known.At geo s) = Length.Bytes (extsize_at geo.order s.at img)
-extsize_known img (Known.No e) = Length.No e
+abbrev pub extsize_known : List ℕ → Result (Geometry × Spot) Refusal → Result ℕ Refusal
+extsize_known img (Ok (geo, s)) = Ok (extsize_at geo.order s.at img)
+extsize_known img (Err e) = Err e
 
-unfoldable pub xattr_list_len : List ℕ → ℕ → Length
+unfoldable pub xattr_list_len : List ℕ → ℕ → Result ℕ Refusal
 xattr_list_len img i = extsize_known img (known_of (place_in img i))
 
 -- ---- xattr_len
 
-abbrev pub length_of : Hit → Length
-length_of (Hit.At a b e) = Length.Bytes (value_len b e)
-length_of (Hit.No e) = Length.No e
+abbrev pub length_of : Result (Area × ℕ × Entry) Refusal → Result ℕ Refusal
+length_of (Ok (a, b, e)) = Ok (value_len b e)
+length_of (Err e) = Err e
 
-unfoldable pub xattr_len : List ℕ → ℕ → List ℕ → Length
+unfoldable pub xattr_len : List ℕ → ℕ → List ℕ → Result ℕ Refusal
 xattr_len img i name = length_of (read_xattr img i name)
 
 -- ---- xattr_read: "handed back as parts of a lent buffer: .. the attribute area gathered into it (34 if shorter than extsize)"
 
 -- the value's place in the area
-abbrev pub place_of : ℕ → Entry → Value
-place_of b e = Value.At (b + gap b e.namelen) (b + gap b e.namelen + value_len b e)
+abbrev pub place_of : ℕ → Entry → Result (ℕ × ℕ) Refusal
+place_of b e = Ok ((b + gap b e.namelen), (b + gap b e.namelen + value_len b e))
 
-abbrev pub value_of : List ℕ → List ℕ → Hit → List ℕ × Value
-value_of img buf (Hit.At a b e) =
-    pick (ltb (length buf) a.size) (buf, Value.No BufferTooSmall) (put 0 (gathered a img) buf, place_of b e)
-value_of img buf (Hit.No e) = (buf, Value.No e)
+abbrev pub value_of : List ℕ → List ℕ → Result (Area × ℕ × Entry) Refusal → List ℕ × Result (ℕ × ℕ) Refusal
+value_of img buf (Ok (a, b, e)) =
+    pick (ltb (length buf) a.size) (buf, Err BufferTooSmall) (put 0 (gathered a img) buf, place_of b e)
+value_of img buf (Err e) = (buf, Err e)
 
-unfoldable pub xattr_read : List ℕ → ℕ → List ℕ → List ℕ → List ℕ × Value
+unfoldable pub xattr_read : List ℕ → ℕ → List ℕ → List ℕ → List ℕ × Result (ℕ × ℕ) Refusal
 xattr_read img i name buf = value_of img buf (read_xattr img i name)
 
 -- ---- xattr_list: the text of each attribute and a NUL; 34 if the buffer is shorter than that
 
 -- how long they are; "lengths that do not fit, are 97"
-abbrev pub measured : Texts → Length
-measured (texts t) = Length.Bytes (length t)
-measured bad = Length.No Damaged
+abbrev pub measured : Texts → Result ℕ Refusal
+measured (texts t) = Ok (length t)
+measured bad = Err Damaged
 
-abbrev pub texts_put : List ℕ → Texts → List ℕ × Length
-texts_put out (texts t) = pick (ltb (length out) (length t)) (out, Length.No BufferTooSmall) (put 0 t out, Length.Bytes (length t))
-texts_put out bad = (out, Length.No Damaged)
+abbrev pub texts_put : List ℕ → Texts → List ℕ × Result ℕ Refusal
+texts_put out (texts t) = pick (ltb (length out) (length t)) (out, Err BufferTooSmall) (put 0 t out, Ok (length t))
+texts_put out bad = (out, Err Damaged)
 
-abbrev pub list_lies : Geometry → List ℕ → List ℕ → Lies → List ℕ × Length
-list_lies geo img out (Lies.In a) = texts_put out (list_in geo.order (gathered a img))
-list_lies geo img out Lies.Bad = (out, Length.No Damaged)
+abbrev pub list_lies : Geometry → List ℕ → List ℕ → Result Area Damage → List ℕ × Result ℕ Refusal
+list_lies geo img out (Ok a) = texts_put out (list_in geo.order (gathered a img))
+list_lies geo img out (Err harm) = (out, Err Damaged)
 
-abbrev pub list_known : List ℕ → List ℕ → Known → List ℕ × Length
-list_known img out (Known.At geo s) = list_lies geo img out (area_of geo s.at img)
-list_known img out (Known.No e) = (out, Length.No e)
+abbrev pub list_known : List ℕ → List ℕ → Result (Geometry × Spot) Refusal → List ℕ × Result ℕ Refusal
+list_known img out (Ok (geo, s)) = list_lies geo img out (area_of geo s.at img)
+list_known img out (Err e) = (out, Err e)
 
-unfoldable pub xattr_list : List ℕ → ℕ → List ℕ → List ℕ × Length
+unfoldable pub xattr_list : List ℕ → ℕ → List ℕ → List ℕ × Result ℕ Refusal
 xattr_list img i out = list_known img out (known_of (place_in img i))

@@ -1,10 +1,11 @@
 // xattr.rs: iter_xattr, the gathering. Where an inode's attribute area lies, and its bytes copied out.
-ghost use Rattle.std.specs.Prelude.{◌≡◌, ◌+◌, ◌-◌, ◌/◌, ◌≤◌, ◌<◌, min, length};
+ghost use Rattle.std.specs.Prelude.{◌≡◌, ◌+◌, ◌-◌, ◌/◌, ◌≤◌, ◌<◌, length};
 ghost use Rattle.field.specs.Field.{part, put};
 ghost use Rattle.frame.specs.Frame.{Frame};
 ghost use Rattle.xattr.specs.Area.{block_at, area_sized, area_of, gathered, Inside};
 
-use crate::{Area, Block, Lies};
+use crate::Area;
+use refusal::Damage;
 use volume::{FragNum, Geometry};
 
 // How many fragments n bytes fill.
@@ -17,57 +18,47 @@ fn frags_of(geo: Geometry, n: usize) -> u64
 }
 
 // Where the n needed bytes of the j-th block begin.
-fn block_at(img: &[u8], geo: Geometry, at: usize, j: u64, n: usize) -> Block
+fn block_at(img: &[u8], geo: Geometry, at: usize, j: u64, n: usize) -> Result<usize, Damage>
     requires { Frame geo img.now × (at + 256 ≤ length img.now) × (j < 2) × (n < 131072) }
     ensures { result ≡ block_at geo at img.now j n }
 {
     if n == 0 {
-        return Block::At(0);
+        return Ok(0);
     }
     let o = geo.order;
     let a = FragNum(inode::read_extb(img, o, at, j));
     if a.0 == 0 {
-        return Block::Bad;
+        return Err(Damage);
     }
     if frame::run_ok(img, geo, a, frags_of(geo, n)) {
-        return Block::At(volume::address_at(geo, a));
+        return Ok(volume::address_at(geo, a));
     }
-    Block::Bad
-}
-
-// How many of the bytes lie in the first block.
-fn split_of(size: usize, bs: usize) -> usize
-    ensures { result ≡ min size bs }
-{
-    if size < bs { size } else { bs }
+    Err(Damage)
 }
 
 // An area of that size.
-fn area_sized(img: &[u8], geo: Geometry, at: usize, size: usize) -> Lies
+fn area_sized(img: &[u8], geo: Geometry, at: usize, size: usize) -> Result<Area, Damage>
     requires { Frame geo img.now × (at + 256 ≤ length img.now) }
     ensures { result ≡ area_sized geo at img.now size }
 {
     let bs = geo.bsize as usize;
     if 2 * bs <= size {
-        return Lies::Bad;
+        return Err(Damage);
     }
-    let split = split_of(size, bs);
-    match block_at(img, geo, at, 0, split) {
-        Block::At(first) => match block_at(img, geo, at, 1, size - split) {
-            Block::At(second) => Lies::In(Area {
-                size,
-                split,
-                first,
-                second,
-            }),
-            Block::Bad => Lies::Bad,
-        },
-        Block::Bad => Lies::Bad,
-    }
+    // how many of the bytes lie in the first block
+    let split = size.min(bs);
+    let first = block_at(img, geo, at, 0, split)?;
+    let second = block_at(img, geo, at, 1, size - split)?;
+    Ok(Area {
+        size,
+        split,
+        first,
+        second,
+    })
 }
 
 // The area of the inode whose record is at `at`.
-pub fn area_of(img: &[u8], geo: Geometry, at: usize) -> Lies
+pub fn area_of(img: &[u8], geo: Geometry, at: usize) -> Result<Area, Damage>
     requires { Frame geo img.now × (at + 256 ≤ length img.now) }
     ensures { result ≡ area_of geo at img.now }
 {

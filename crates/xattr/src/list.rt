@@ -6,33 +6,24 @@ ghost use Rattle.attrrec.specs.Search.{texts, list_in, all_texts};
 ghost use Rattle.xattr.specs.Area.{gathered, Inside};
 ghost use Rattle.xattr.specs.Calls.{measured};
 
-use crate::{Area, Length};
-use attrrec::{Attr, Entry};
+use crate::Area;
+use attrrec::Entry;
 use field::Order;
 use refusal::Refusal;
 
 // How long the list is.
-pub fn measure(img: &[u8], o: Order, a: Area) -> Length
+pub fn measure(img: &[u8], o: Order, a: Area) -> Result<u32, Refusal>
     requires { Inside a img.now }
     ensures { result ≡ measured (list_in o (gathered a img.now)) }
 {
     let mut n = 0;
     let mut b = 0;
-    loop {
-        let attr = crate::walk::attr_in(img, o, a, b);
-        match attr {
-            Attr::Is(e) => {
-                n += attrrec::text_len(e);
-                b += e.len as usize;
-            }
-            Attr::End => {
-                return Length::Bytes(n);
-            }
-            Attr::Bad => {
-                return Length::No(Refusal::Damaged);
-            }
-        }
+    // not a `for`: the step is the record's length
+    while let Some(e) = crate::walk::attr_in(img, o, a, b)? {
+        n += attrrec::text_len(e);
+        b += e.len as usize;
     }
+    Ok(n)
 }
 
 // What the attribute e at b adds to the list, written from n on: how many bytes.
@@ -56,19 +47,9 @@ pub fn write_texts(img: &[u8], o: Order, a: Area, out: &mut [u8])
 {
     let mut n = 0;
     let mut b = 0;
-    loop {
-        let attr = crate::walk::attr_in(img, o, a, b);
-        match attr {
-            Attr::Is(e) => {
-                n += write_text(img, a, b, e, out, n);
-                b += e.len as usize;
-            }
-            Attr::End => {
-                return;
-            }
-            Attr::Bad => {
-                return;
-            }
-        }
+    // not a `for`: the step is the record's length; no damage is met, as required
+    while let Some(e) = crate::walk::attr_in(img, o, a, b).unwrap_or(None) {
+        n += write_text(img, a, b, e, out, n);
+        b += e.len as usize;
     }
 }

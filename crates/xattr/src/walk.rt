@@ -1,21 +1,22 @@
 // xattr.rs: iter_xattr and read_xattr. The attributes of an area of the image, walked and searched.
-ghost use Rattle.std.specs.Prelude.{◌≡◌, ◌+◌, ◌-◌, ◌≤◌, ◌<◌};
+ghost use Rattle.std.specs.Prelude.{◌≡◌, ◌+◌, ◌≤◌};
 ghost use Rattle.attrrec.specs.Record.{attr_at};
 ghost use Rattle.attrrec.specs.Search.{named, find_in};
 ghost use Rattle.xattr.specs.Area.{gathered, Inside};
 
 use crate::Area;
-use attrrec::{Attr, Entry, Find};
+use attrrec::Entry;
 use field::Order;
+use refusal::Damage;
 
 // What stands at b of the area: its header is copied out and judged.
-pub fn attr_in(img: &[u8], o: Order, a: Area, b: usize) -> Attr
+pub fn attr_in(img: &[u8], o: Order, a: Area, b: usize) -> Result<Option<Entry>, Damage>
     requires { Inside a img.now }
     ensures { result ≡ attr_at o (gathered a img.now) b }
 {
     let left = attrrec::left_of(a.size, b);
     if left < 7 {
-        return Attr::End;
+        return Ok(None);
     }
     let mut head = [0u8; 7];
     crate::blocks::gather(img, a, b, &mut head, 0, 7);
@@ -34,26 +35,17 @@ fn is_named(img: &[u8], a: Area, b: usize, e: Entry, name: &[u8]) -> bool
 }
 
 // The first attribute that has the text asked for.
-pub fn find_in(img: &[u8], o: Order, a: Area, name: &[u8]) -> Find
+pub fn find_in(img: &[u8], o: Order, a: Area, name: &[u8]) -> Result<Option<(usize, Entry)>, Damage>
     requires { Inside a img.now }
     ensures { result ≡ find_in o (gathered a img.now) name.now }
 {
     let mut b = 0;
-    loop {
-        let attr = attr_in(img, o, a, b);
-        match attr {
-            Attr::Is(e) => {
-                if is_named(img, a, b, e, name) {
-                    return Find::At(b, e);
-                }
-                b += e.len as usize;
-            }
-            Attr::End => {
-                return Find::Absent;
-            }
-            Attr::Bad => {
-                return Find::Bad;
-            }
+    // not a `for`: the step is the record's length
+    while let Some(e) = attr_in(img, o, a, b)? {
+        if is_named(img, a, b, e, name) {
+            return Ok(Some((b, e)));
         }
+        b += e.len as usize;
     }
+    Ok(None)
 }

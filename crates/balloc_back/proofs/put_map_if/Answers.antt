@@ -6,4 +6,4 @@ use Rattle.balloc_back.proofs.put_map_if.Goals as goal
 pub returns : goal.returns
 returns c =
     let a = c.args in
-    map_stored a.geo a.g a.f a.n a.img.now c.map_at-at.ensures.0 refl c.put_bits-byte.ensures (search rules) _ _ _ c.put_u8_if.ensures
+    map_stored a.geo a.g a.f a.n a.img.now c.map_at-at.ensures.0 refl c.put_bits-byte.ensures (search rules) _ _ _ c.put_if.ensures

@@ -18,5 +18,5 @@ returns c =
     let a = c.args in (
       block-stored a.geo a.g a.f a.k a.img.now c.counts_at-c.ensures c.read_totals.ensures (ap (λ (t : Totals). t.nbfree) c.totals_after-t.ensures)
           c.wrapping_add_u32.ensures.value c.put_map_if.ensures c.put_total_if.ensures c.put_count_if.ensures,
-      c.at_most.ensures ∙ rw (block-length a.geo a.g a.f a.img.now),
+      c.min.ensures ∙ rw (block-length a.geo a.g a.f a.img.now),
     )

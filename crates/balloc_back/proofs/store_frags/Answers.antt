@@ -13,6 +13,6 @@ returns c =
     let s = c.counts_at-c.ensures in
     let t = c.read_totals-t.ensures in
     let w = c.whole_then-whole.ensures in (
-      frags-stored a.geo a.g a.f a.n a.k a.img.now s t w c.left_of.ensures c.store_maps.ensures c.store_counts-tail.ensures.0,
-      frags-made a.geo a.g a.f a.n a.k a.img.now s t w c.store_counts-tail.ensures.1 c.at_most.ensures,
+      frags-stored a.geo a.g a.f a.n a.k a.img.now s t w c.saturating_sub.ensures c.store_maps.ensures c.store_counts-tail.ensures.0,
+      frags-made a.geo a.g a.f a.n a.k a.img.now s t w c.store_counts-tail.ensures.1 c.min.ensures,
     )

@@ -1,8 +1,7 @@
 -- `recount_all` meets its contract: the groups passed have their counts, and the sums are theirs. Assumes nothing.
 use borrow.Author.Rules.{rules}
-use Prim.Native.Nat.{◌-◌}
 use native.Mathlib.Omega.{arith}
-use Rattle.balloc_count.proofs.RecountLaws.{Passed, passed-none, passed-frame, passed-long, passed-more, passed-fits, passed-all}
+use Rattle.balloc_count.proofs.RecountLaws.{passed-none, passed-frame, passed-long, passed-more, passed-fits, passed-all}
 use Rattle.balloc_count.proofs.recount_all.Goals as goal
 
 pub loop-g-init : goal.loop-g-init

@@ -1,11 +1,13 @@
 -- `as_bit` meets its contract. Assumes nothing.
-use borrow.Author.Rules.{rules}
-use mathlib.Core.Path.{sym}
-use Rattle.bits.proofs.UptoLaws.{as_bit-true, as_bit-false}
+use Rattle.std.proofs.Common.{arith, ◌≡◌, Bool, true, false, ℕ, ◌<◌}
+use mir.Val.{bool_byte}
+use Rattle.bits.specs.Upto.{as_bit}
 use Rattle.bits.proofs.as_bit.Goals as goal
 
-pub returns-then-free : goal.returns-then-free
-returns-then-free c = (sym (as_bit-true c.if-free.true), search rules)
+told : (free : Bool) (n : ℕ) → n ≡ bool_byte free → (n ≡ as_bit free) × (n < 2)
+unfolding as_bit
+told true n e = (e, omega arith)
+told false n e = (e, omega arith)
 
-pub returns-else-free : goal.returns-else-free
-returns-else-free c = (sym (as_bit-false c.if-free.false), search rules)
+pub returns : goal.returns
+returns c = told _ _ c.from.ensures

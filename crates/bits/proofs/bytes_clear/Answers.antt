@@ -1,27 +1,33 @@
--- `bytes_clear` meets its contract: the bytes passed are 0. Assumes nothing.
-use borrow.Author.Rules.{rules}
-use mathlib.Core.Path.{◌≡◌, sym}
-use Prim.Native.Nat.{◌+◌}
-use native.Mathlib.Omega.{arith}
+-- `bytes_clear` meets its contract: the bits are 0 just where each byte is. Assumes nothing.
+use Rattle.std.proofs.Common.{rules, arith, ◌≡◌, refl, sym, ◌∙◌, Bool, true, false, ◌+◌, ◌*◌, ◌<◌, ◌↔◌, ℕ, zero, suc, List, length, take, drop, get_or, add-one, get_or-take, get_or-drop, length-take, length-drop, EachIndex, IsTrue}
+use Rattle.bits.specs.Bits.{bits_are}
+use Rattle.bits.proofs.UptoLaws.{not-true, true-not-false}
 use Rattle.bits.proofs.BitsLaws.{bits_none, bytes-more, bytes-fail}
 use Rattle.bits.proofs.bytes_clear.Goals as goal
 
-pub loop-k-init : goal.loop-k-init
-loop-k-init c = (search rules, bits_none _ _ _ _)
+no-other : (x : ℕ) → ((x ≡ 0 → ⊥) → ⊥) → x ≡ 0
+no-other zero h = refl
+no-other (suc x) h = absurd (h (λ e. let y : ⊥ = omega arith in y))
 
-pub returns-then-img-from-ne0 : goal.returns-then-img-from-ne0
-returns-then-img-from-ne0 c =
-    let a = c.args in
-    let k = c.loop-k.k in
-    sym (bytes-fail 0 a.img.now a.at a.i k (omega arith) (c.shared_slice_known-1.given (a.at + a.i + k)).fits a.n (omega arith) c.if-img-from-ne0.true)
+module _ (img : List ℕ) (at i : ℕ) (small : (k : ℕ) → get_or img k 0 < 256) where
+  bytes-clear : (n : ℕ) → ((k : ℕ) → k < n → get_or img (at + i + k) 0 ≡ 0) → bits_are 0 img at (8 * i) (8 * n) ≡ true
+  bytes-clear zero h = bits_none 0 img at (8 * i)
+  bytes-clear (suc n) h =
+      rw add-one at (bytes-more 0 img at i n (omega arith) (small (at + i + n)) (bytes-clear n (λ k l. h k (omega arith))) (h n (omega arith)))
 
-pub loop-k-preserved : goal.loop-k-preserved
-loop-k-preserved c =
-    let a = c.args in
-    let k = c.loop-k.k in (
-      search rules,
-      bytes-more 0 a.img.now a.at a.i k (omega arith) (c.shared_slice_known-1.given (a.at + a.i + k)).fits c.loop-k.invariant.1 c.if-img-from-ne0.false,
-    )
+  clear-byte : (n k : ℕ) → bits_are 0 img at (8 * i) (8 * n) ≡ true → k < n → get_or img (at + i + k) 0 ≡ 0
+  clear-byte n k a l = no-other _ (λ h. true-not-false a (bytes-fail 0 img at i k (omega arith) (small (at + i + k)) n l h))
+
+  module _ (n : ℕ) (xs : List ℕ) (long : length xs ≡ n) (same : (k : ℕ) → k < n → get_or xs k 0 ≡ get_or img (at + i + k) 0) where
+    bytes-told : (b : Bool) → (IsTrue b ↔ EachIndex xs (λ k. get_or xs k 0 ≡ 0)) → b ≡ bits_are 0 img at (8 * i) (8 * n)
+    bytes-told true t = sym (bytes-clear n (λ k m. sym (same k m) ∙ t.0 refl k (omega arith)))
+    bytes-told false t = sym (not-true _ (λ a. true-not-false (t.1 (λ k m. same k (omega arith) ∙ clear-byte n k a (omega arith))) refl))
 
 pub returns : goal.returns
-returns c = let e : c.loop-k.k ≡ c.args.n = omega arith in cc
+returns c =
+    let a = c.args in
+    let bytes = take a.n (drop (a.at + a.i) a.img.now) in
+    let long : length bytes ≡ a.n = simp (length-take, length-drop) (omega arith) in
+    let same : (k : ℕ) → k < a.n → get_or bytes k 0 ≡ get_or a.img.now (a.at + a.i + k) 0 = λ k m. rw (get_or-take, get_or-drop) in
+    let told : IsTrue c.all.result ↔ EachIndex bytes (λ k. get_or bytes k 0 ≡ 0) = search rules in
+    bytes-told _ _ _ (λ k. (c.type_inv.img k).fits) _ _ long same _ told

@@ -1,5 +1,4 @@
 -- `blocks_in_byte` meets its contract: a byte of 0 has no free block, and each block of a byte of 255 is free. Assumes nothing.
-use borrow.Author.Rules.{rules}
 use mathlib.Core.Bool.{true, false}
 use mathlib.Core.Path.{refl}
 use native.Mathlib.Omega.{arith}

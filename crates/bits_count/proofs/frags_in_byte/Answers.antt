@@ -1,5 +1,4 @@
 -- `frags_in_byte` meets its contract: the ones of the byte's low bits. Assumes nothing.
-use borrow.Author.Rules.{rules}
 use native.Mathlib.Nat.{mod-lt}
 use native.Mathlib.Omega.{arith}
 use Prim.Native.Nat.{◌%◌}

@@ -1,13 +1,8 @@
 -- `first_clear_bit` meets its contract: no bit of the bytes passed is clear. Assumes nothing.
-use borrow.Author.Rules.{rules}
-use mathlib.Core.Path.{◌≡◌, sym, ◌∙◌}
+use mathlib.Core.Path.{◌≡◌}
 use Prim.Native.Nat.{◌-◌, ◌%◌, ◌<◌, ◌≤◌}
-use native.Mathlib.Nat.{sub-zero}
-use native.Mathlib.Omega.{arith}
 use Rattle.bits.specs.Upto.{first}
 use Rattle.bits.specs.Bits.{is_clear}
-use Rattle.bits.proofs.UptoLaws.{first-turn, first-stop, first-end}
-use Rattle.bits.proofs.CountLaws.{first-clear-is}
 use Rattle.bits_find.proofs.first_clear_bit.Given as goal
 
 abbrev pub invariant-loop-f : goal.invariant-loop-f

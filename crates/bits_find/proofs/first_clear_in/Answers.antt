@@ -1,25 +1,18 @@
 -- `first_clear_in` meets its contract: no bit passed is clear. Assumes nothing.
-use borrow.Author.Rules.{rules}
 use mathlib.Core.Bool.{not}
-use mathlib.Core.Path.{◌≡◌, refl, sym, ap, ◌∙◌}
-use Prim.Native.Nat.{◌-◌, ◌≤◌}
+use mathlib.Core.Path.{sym, ap, ◌∙◌}
 use native.Mathlib.Omega.{arith}
-use Rattle.bits.specs.Upto.{first}
-use Rattle.bits.specs.Bits.{is_clear}
 use Rattle.bits.proofs.UptoLaws.{first-here, first_next, first-end}
 use Rattle.bits.proofs.BitsLaws.{clear-is}
 use Rattle.bits_find.proofs.first_clear_in.Goals as goal
 
-pub loop-f-init : goal.loop-f-init
-loop-f-init c = (search rules, refl)
-
 pub returns-then-not-isfreefrag : goal.returns-then-not-isfreefrag
 returns-then-not-isfreefrag c =
-    sym (c.loop-f.invariant.1 ∙ first-here _ _ c.loop-f.f (omega arith) (clear-is _ _ _ ∙ ap not (sym c.isfreefrag.ensures) ∙ ap not c.if-not-isfreefrag.true))
+    sym (c.loop-f.invariant ∙ first-here _ _ c.loop-f.f (omega arith) (clear-is _ _ _ ∙ ap not (sym c.isfreefrag.ensures) ∙ ap not c.if-not-isfreefrag.true))
 
 pub loop-f-preserved : goal.loop-f-preserved
 loop-f-preserved c =
-    (omega arith, c.loop-f.invariant.1 ∙ first_next _ _ c.loop-f.f (omega arith) (clear-is _ _ _ ∙ ap not (sym c.isfreefrag.ensures) ∙ ap not c.if-not-isfreefrag.false))
+    c.loop-f.invariant ∙ first_next _ _ c.loop-f.f (omega arith) (clear-is _ _ _ ∙ ap not (sym c.isfreefrag.ensures) ∙ ap not c.if-not-isfreefrag.false)
 
 pub returns : goal.returns
-returns c = sym (c.loop-f.invariant.1 ∙ first-end _ _ c.loop-f.f (omega arith))
+returns c = sym (c.loop-f.invariant ∙ first-end _ _ c.loop-f.f (omega arith))

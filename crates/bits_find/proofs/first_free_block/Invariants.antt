@@ -1,14 +1,8 @@
 -- `first_free_block` meets its contract: no block of the bytes passed is free. Assumes nothing.
-use borrow.Author.Rules.{rules}
-use mathlib.Core.Path.{◌≡◌, sym, ◌∙◌}
+use mathlib.Core.Path.{◌≡◌}
 use Prim.Native.Nat.{◌-◌, ◌*◌, ◌<◌, ◌≤◌}
-use native.Mathlib.Nat.{mul-zero, sub-zero}
-use native.Mathlib.Omega.{arith}
 use Rattle.bits.specs.Upto.{first}
 use Rattle.bits.specs.Bits.{block_free}
-use Rattle.bits.proofs.UptoLaws.{first-turn, first-stop, first-end}
-use Rattle.bits.proofs.BitsLaws.{block-ends}
-use Rattle.bits.proofs.CountLaws.{walk-byte, walk-on, first-free-is}
 use Rattle.bits_find.proofs.first_free_block.Given as goal
 
 abbrev pub invariant-loop-h : goal.invariant-loop-h

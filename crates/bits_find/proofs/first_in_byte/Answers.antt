@@ -1,5 +1,4 @@
 -- `first_in_byte` meets its contract: a byte of 0 has no free block. Assumes nothing.
-use borrow.Author.Rules.{rules}
 use mathlib.Core.Path.{sym}
 use native.Mathlib.Omega.{arith}
 use Rattle.bits.proofs.UptoLaws.{first_fails}

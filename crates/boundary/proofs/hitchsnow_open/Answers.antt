@@ -4,8 +4,8 @@ use mathlib.Core.Path.{sym, ap, ◌∙◌}
 use Rattle.boundary.specs.Words.{opened_word}
 use Rattle.boundary.proofs.hitchsnow_open.Goals as goal
 
-pub returns-in-Volume : goal.returns-in-Volume
-returns-in-Volume c = ap opened_word (sym c.in-Volume.is ∙ c.open-o.ensures)
+pub returns-in-Ok : goal.returns-in-Ok
+returns-in-Ok c = ap opened_word (sym c.in-Ok.is ∙ c.open-o.ensures)
 
-pub returns-in-No : goal.returns-in-No
-returns-in-No c = c.number.ensures ∙ ap opened_word (sym c.in-No.is ∙ c.open-o.ensures)
+pub returns-in-Err : goal.returns-in-Err
+returns-in-Err c = c.number.ensures ∙ ap opened_word (sym c.in-Err.is ∙ c.open-o.ensures)

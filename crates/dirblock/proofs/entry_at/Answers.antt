@@ -5,4 +5,4 @@ use Rattle.dirblock.proofs.entry_at.Goals as goal
 
 pub returns : goal.returns
 unfolding entry_at
-returns c = rw (c.get_u32.ensures, c.get_u16.ensures, c.get_u8.ensures, c.get_u8-2.ensures)
+returns c = rw (c.get.ensures, c.get-2.ensures, c.get-3.ensures, c.get-4.ensures)

@@ -5,4 +5,4 @@ use Rattle.dirblock_write.proofs.put_header.Goals as goal
 
 pub returns : goal.returns
 unfolding put_header
-returns c = rw (c.put_u8.ensures, c.put_u16.ensures, c.put_u32.ensures) at c.put_u8-2.ensures
+returns c = rw (c.put-3.ensures, c.put-2.ensures, c.put.ensures) at c.put-4.ensures

@@ -2,6 +2,8 @@
 use borrow.Author.Rules.{rules}
 use borrow.Author.Tests.{not-true, not-false}
 use mathlib.Core.Path.{sym, ap, ◌∙◌}
+use Rattle.std.specs.Prelude.{Ok, Err}
+use Rattle.refusal.proofs.ExitLaws.{passed}
 use Rattle.inode_run.proofs.FindLaws.{found-got}
 use Rattle.inode_read.proofs.JudgeLaws.{found_no}
 use Rattle.dirfile.specs.Seek.{sought_out}
@@ -18,24 +20,26 @@ pub returns-then-not-is_short : goal.returns-then-not-is_short
 returns-then-not-is_short c = sym (ap lookup_of (lookup-long-name _ _ _ _ (sym c.is_taken.ensures ∙ c.if-not-is_taken.false) (sym c.is_short.ensures ∙ c.if-not-is_short.true)))
 
 pub lookup_dir-requires : goal.lookup_dir-requires
-lookup_dir-requires c = let fr = c.requires in (fr, (dir-named _ _ fr _ _ (found-got _ _ (sym c.in-At.is ∙ c.find_dir.ensures))).place.inside)
+lookup_dir-requires c = let fr = c.requires in (fr, (dir-named _ _ fr _ _ (found-got _ _ c.in_ok-s.ensures)).place.inside)
 
-pub returns-in-At-lookup_dir : goal.returns-in-At-lookup_dir
-returns-in-At-lookup_dir c =
+pub returns-in-Some : goal.returns-in-Some
+returns-in-Some c =
     sym (ap lookup_of (lookup-dir _ _ _ _ (sym c.is_taken.ensures ∙ c.if-not-is_taken.false) (sym c.is_short.ensures ∙ c.if-not-is_short.false)
-    _ (found-got _ _ (sym c.in-At.is ∙ c.find_dir.ensures)) c.lookup_dir.result c.lookup_dir.ensures ∙ ap (λ r. sought_out (looked_out r)) c.in-At-lookup_dir.is))
+    _ (found-got _ _ c.in_ok-s.ensures) (Ok c.in_ok-i.field-0) c.in_ok-i.ensures ∙ ap (λ x. sought_out (looked_out (Ok x))) c.in-Some.is))
 
-pub returns-in-Absent : goal.returns-in-Absent
-returns-in-Absent c =
+pub returns-in-None : goal.returns-in-None
+returns-in-None c =
     sym (ap lookup_of (lookup-dir _ _ _ _ (sym c.is_taken.ensures ∙ c.if-not-is_taken.false) (sym c.is_short.ensures ∙ c.if-not-is_short.false)
-    _ (found-got _ _ (sym c.in-At.is ∙ c.find_dir.ensures)) c.lookup_dir.result c.lookup_dir.ensures ∙ ap (λ r. sought_out (looked_out r)) c.in-Absent.is))
+    _ (found-got _ _ c.in_ok-s.ensures) (Ok c.in_ok-i.field-0) c.in_ok-i.ensures ∙ ap (λ x. sought_out (looked_out (Ok x))) c.in-None.is))
 
-pub returns-in-Bad : goal.returns-in-Bad
-returns-in-Bad c =
-    sym (ap lookup_of (lookup-dir _ _ _ _ (sym c.is_taken.ensures ∙ c.if-not-is_taken.false) (sym c.is_short.ensures ∙ c.if-not-is_short.false)
-    _ (found-got _ _ (sym c.in-At.is ∙ c.find_dir.ensures)) c.lookup_dir.result c.lookup_dir.ensures ∙ ap (λ r. sought_out (looked_out r)) c.in-Bad.is))
+pub returns-in_err-s : goal.returns-in_err-s
+returns-in_err-s c =
+    passed _ _ c.from_residual.ensures
+    ∙ sym (ap lookup_of (lookup-no-dir _ _ _ _ (sym c.is_taken.ensures ∙ c.if-not-is_taken.false) (sym c.is_short.ensures ∙ c.if-not-is_short.false)
+    _ (found_no _ _ c.in_err-s.ensures)))
 
-pub returns-in-No : goal.returns-in-No
-returns-in-No c =
-    sym (ap lookup_of (lookup-no-dir _ _ _ _ (sym c.is_taken.ensures ∙ c.if-not-is_taken.false) (sym c.is_short.ensures ∙ c.if-not-is_short.false)
-    _ (found_no _ _ (sym c.in-No.is ∙ c.find_dir.ensures))))
+pub returns-in_err-i : goal.returns-in_err-i
+returns-in_err-i c =
+    passed _ _ c.from_residual-in_err-i.ensures
+    ∙ sym (ap lookup_of (lookup-dir _ _ _ _ (sym c.is_taken.ensures ∙ c.if-not-is_taken.false) (sym c.is_short.ensures ∙ c.if-not-is_short.false)
+    _ (found-got _ _ c.in_ok-s.ensures) (Err c.in_err-i.field-0.0) c.in_err-i.ensures))

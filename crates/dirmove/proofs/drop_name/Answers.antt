@@ -1,12 +1,12 @@
 -- `drop_name` meets its contract. Assumes nothing.
 use borrow.Author.Rules.{rules}
-use mathlib.Core.Path.{ap}
-use Rattle.inode_setblock.specs.Set.{written_out}
+use mathlib.Core.Path.{refl}
+use Rattle.refusal.proofs.ExitLaws.{passed}
 use Rattle.dirmove.proofs.MoveLaws.{name-dropped, drop-stop}
 use Rattle.dirmove.proofs.drop_name.Goals as goal
 
-pub returns-in-Done : goal.returns-in-Done
-returns-in-Done c = name-dropped _ _ _ _ _ c.take_name.ensures (ap written_out c.in-Done.is)
+pub returns : goal.returns
+returns c = name-dropped _ _ _ _ _ c.in_ok-take_name.ensures refl
 
-pub returns-in-No : goal.returns-in-No
-returns-in-No c = drop-stop _ _ _ _ _ c.take_name.ensures (ap written_out c.in-No.is)
+pub returns-in_err-take_name : goal.returns-in_err-take_name
+returns-in_err-take_name c = rw (passed _ _ c.from_residual.ensures) (drop-stop _ _ _ _ _ c.in_err-take_name.ensures refl)

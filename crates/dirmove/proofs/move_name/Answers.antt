@@ -1,16 +1,16 @@
 -- `move_name` meets its contract. Assumes nothing.
 use borrow.Author.Rules.{rules}
-use mathlib.Core.Path.{ap, ◌∙◌}
-use Rattle.inode_setblock.specs.Set.{written_out}
+use mathlib.Core.Path.{refl, ◌∙◌}
+use Rattle.refusal.proofs.ExitLaws.{passed}
 use Rattle.books.proofs.KeepLaws.{kept-left}
 use Rattle.dirmove.proofs.MoveLaws.{keeps-clear, move-cleared, move-stop}
 use Rattle.dirmove.proofs.move_name.Goals as goal
 
 pub relink-requires : goal.relink-requires
-relink-requires c = let p = c.requires in ((kept-left _ (keeps-clear _ _ _ _) p.0 c.clear_way.ensures).frame, p.1)
+relink-requires c = let p = c.requires in ((kept-left _ (keeps-clear _ _ _ _) p.0 c.in_ok-clear_way.ensures).frame, p.1)
 
-pub returns-in-Done : goal.returns-in-Done
-returns-in-Done c = c.relink.ensures ∙ move-cleared _ _ _ _ _ _ _ _ _ c.clear_way.ensures (ap written_out c.in-Done.is)
+pub returns : goal.returns
+returns c = c.relink.ensures ∙ move-cleared _ _ _ _ _ _ _ _ _ c.in_ok-clear_way.ensures refl
 
-pub returns-in-No : goal.returns-in-No
-returns-in-No c = move-stop _ _ _ _ _ _ _ _ _ c.clear_way.ensures (ap written_out c.in-No.is)
+pub returns-in_err-clear_way : goal.returns-in_err-clear_way
+returns-in_err-clear_way c = rw (passed _ _ c.from_residual.ensures) (move-stop _ _ _ _ _ _ _ _ _ c.in_err-clear_way.ensures refl)

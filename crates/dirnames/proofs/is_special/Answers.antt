@@ -1,5 +1,4 @@
 -- `is_special` meets its contract. Assumes nothing.
-use borrow.Author.Rules.{rules}
 use Rattle.dirnames.proofs.NamesLaws.{special-one, special-two, special-not}
 use Rattle.dirnames.proofs.is_special.Goals as goal
 

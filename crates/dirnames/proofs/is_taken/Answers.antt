@@ -1,5 +1,4 @@
 -- `is_taken` meets its contract. Assumes nothing.
-use borrow.Author.Rules.{rules}
 use Rattle.dirnames.specs.Names.{taken}
 use Rattle.dirnames.proofs.is_taken.Goals as goal
 

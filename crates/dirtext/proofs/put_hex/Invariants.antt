@@ -10,7 +10,4 @@ use Rattle.dirtext.proofs.TextLaws.{wrote-long, hex-start, hex-place, hex-turn}
 use Rattle.dirtext.proofs.put_hex.Given as goal
 
 abbrev pub invariant-loop-i : goal.invariant-loop-i
-invariant-loop-i l = (l.i ≤ l.n) × (length l.out ≡ length l.initial.out) × ((l.out, l.end) ≡ wrote l.at (hex_text (part l.i l.from l.block)) l.initial.out)
-
-abbrev pub decreases-loop-i : goal.decreases-loop-i
-decreases-loop-i l = l.n - l.i
+invariant-loop-i l = (length l.out ≡ length l.initial.out) × ((l.out, l.end) ≡ wrote l.at (hex_text (part l.i l.from l.block)) l.initial.out)

@@ -1,31 +1,34 @@
 -- `look_block` meets its contract. Assumes nothing.
 use borrow.Author.Rules.{rules}
-use native.Mathlib.Omega.{arith}
-use mathlib.Core.Path.{sym, ap, ◌∙◌}
-use mathlib.Core.Bool.{false}
-use Rattle.dirfile.proofs.BlockLaws.{in_image}
-use Rattle.dirwalk.specs.Walk.{looked_in}
+use mathlib.Core.Path.{◌≡◌, sym, ap, ◌∙◌}
+use Prim.Native.Nat.{ℕ}
+use Rattle.std.specs.Prelude.{Option, Some, None, Ok}
+use Rattle.std.specs.Option.{MatchOption, IsSomeAnd}
+use Rattle.refusal.proofs.ExitLaws.{passed}
+use Rattle.dirblock.specs.declared.Spot.{Spot}
+use Rattle.dirwalk.specs.Walk.{looked_in, looked_out}
 use Rattle.dirwalk.proofs.ZeroLaws.{find-zeros}
 use Rattle.dirwalk.proofs.BlockLaws.{said_at, said-hole, said-bad}
+use mathlib.Core.Bool.{false}
 use Rattle.dirwalk.proofs.look_block.Goals as goal
 
-pub overflow_add-p : goal.overflow_add-p
-overflow_add-p c = omega (arith, in_image _ _ c.in-At.is c.block_at.ensures.1, c.requires.0.laid.high)
+-- the record's inode, where there is a record
+inode_of : (x : Option Spot) (r : Option ℕ) → MatchOption x (r ≡ None) (λ s. IsSomeAnd r (λ i. i ≡ s.entry.inr)) → looked_out (Ok r) ≡ looked_in (Ok x)
+inode_of None r h = rw h
+inode_of (Some s) (Some i) h = rw h
+inode_of (Some s) None h = absurd h
 
-pub slice_bounds-find_in-end : goal.slice_bounds-find_in-end
-slice_bounds-find_in-end c = in_image _ _ c.in-At.is c.block_at.ensures.1
+pub returns-in_err-p : goal.returns-in_err-p
+returns-in_err-p c = ap looked_out (passed _ _ c.from_residual.ensures) ∙ said-bad _ _ c.block_at.ensures.0 c.in_err-p.was
 
-pub returns-in-At-find_in : goal.returns-in-At-find_in
-returns-in-At-find_in c = sym (ap looked_in (sym c.find_in.ensures ∙ c.in-At-find_in.is)) ∙ said_at _ _ c.block_at.ensures.0 _ c.in-At.is
+pub returns-in_default : goal.returns-in_default
+returns-in_default c = sym (ap looked_in (find-zeros _ _ false)) ∙ said-hole _ _ c.block_at.ensures.0 (c.in_ok-p.was ∙ ap Ok c.in_default.is)
 
-pub returns-in-Absent : goal.returns-in-Absent
-returns-in-Absent c = sym (ap looked_in (sym c.find_in.ensures ∙ c.in-Absent.is)) ∙ said_at _ _ c.block_at.ensures.0 _ c.in-At.is
+pub returns-in_err-found : goal.returns-in_err-found
+returns-in_err-found c =
+    ap looked_out (passed _ _ c.from_residual-in_err-found.ensures) ∙ ap looked_in c.in_err-found.ensures ∙ said_at _ _ c.block_at.ensures.0 _ (c.in_ok-p.was ∙ ap Ok c.in-Some.is)
 
-pub returns-in-Bad-find_in : goal.returns-in-Bad-find_in
-returns-in-Bad-find_in c = sym (ap looked_in (sym c.find_in.ensures ∙ c.in-Bad-find_in.is)) ∙ said_at _ _ c.block_at.ensures.0 _ c.in-At.is
-
-pub returns-in-Hole : goal.returns-in-Hole
-returns-in-Hole c = sym (ap looked_in (find-zeros _ _ false)) ∙ said-hole _ _ c.block_at.ensures.0 c.in-Hole.is
-
-pub returns-in-Bad : goal.returns-in-Bad
-returns-in-Bad c = said-bad _ _ c.block_at.ensures.0 c.in-Bad.is
+pub returns : goal.returns
+returns c =
+    let q : MatchOption c.in_ok-found.found (c.map.result ≡ None) (λ s. IsSomeAnd c.map.result (λ i. i ≡ s.entry.inr)) = search rules in
+    inode_of c.in_ok-found.found c.map.result q ∙ ap looked_in c.in_ok-found.ensures ∙ said_at _ _ c.block_at.ensures.0 _ (c.in_ok-p.was ∙ ap Ok c.in-Some.is)

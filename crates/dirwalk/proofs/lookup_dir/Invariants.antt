@@ -1,17 +1,12 @@
 -- `lookup_dir` meets its contract: no block passed has the name. Assumes nothing.
 use borrow.Author.Rules.{rules}
-use borrow.Author.Tests.{eqb-true, eqb-false, not-true, not-false}
-use native.Mathlib.Omega.{arith}
-use mathlib.Core.Path.{◌≡◌, sym, ap, ◌∙◌}
-use Prim.Native.Nat.{◌-◌, ◌≤◌}
+use mathlib.Core.Path.{◌≡◌}
+use Prim.Native.Nat.{◌-◌}
 use Rattle.dirfile.specs.Seek.{seek_from}
-use Rattle.dirfile.proofs.SeekLaws.{said, seek-here, seek-hurt, seek-next, seek-end}
-use Rattle.dirwalk.specs.Walk.{looked_out, lookup_dir}
-use Rattle.dirwalk.proofs.WalkLaws.{looks, lookup-start, lookup-odd}
+use Rattle.dirfile.proofs.SeekLaws.{said}
+use Rattle.dirwalk.specs.Walk.{lookup_dir}
+use Rattle.dirwalk.proofs.WalkLaws.{looks}
 use Rattle.dirwalk.proofs.lookup_dir.Given as goal
 
 abbrev pub invariant-loop-k : goal.invariant-loop-k
-invariant-loop-k l = (l.k ≤ l.n) × (seek_from (said l.geo l.at l.size l.img (looks l.geo l.name)) (l.n - l.k) l.k ≡ lookup_dir l.geo l.at l.size l.img l.name)
-
-abbrev pub decreases-loop-k : goal.decreases-loop-k
-decreases-loop-k l = l.n - l.k
+invariant-loop-k l = seek_from (said l.geo l.at l.size l.img (looks l.geo l.name)) (l.n - l.k) l.k ≡ lookup_dir l.geo l.at l.size l.img l.name

@@ -1,12 +1,13 @@
 -- `link_block` meets its contract. Assumes nothing.
 use borrow.Author.Rules.{rules}
 use mathlib.Core.Path.{refl, ◌∙◌}
-use borrow.Author.Tests.{not-true, not-false}
+use mathlib.Core.Bool.{true, false}
+use Rattle.refusal.proofs.ExitLaws.{passed}
 use Rattle.dirwrite.proofs.WriteLaws.{link-unread, link-read}
 use Rattle.dirwrite.proofs.link_block.Goals as goal
 
-pub returns-then-not-read_block : goal.returns-then-not-read_block
-returns-then-not-read_block c = link-unread _ _ _ _ _ c.read_block.result _ c.read_block.ensures.0 _ _ _ (c.if-not-read_block.true)
+pub returns-in_err-read_block : goal.returns-in_err-read_block
+returns-in_err-read_block c = rw (passed _ _ c.from_residual.ensures) (link-unread _ _ _ _ _ false c.read_block.new.block c.in_err-read_block.ensures.0 _ _ _ refl)
 
 pub returns : goal.returns
-returns c = c.write_at.ensures ∙ link-read _ _ _ _ _ c.read_block.result _ c.read_block.ensures.0 _ _ _ (c.if-not-read_block.false) _ refl c.link_in.ensures
+returns c = c.write_at.ensures ∙ link-read _ _ _ _ _ true _ c.in_ok-read_block.ensures.0 _ _ _ refl _ refl c.link_in.ensures

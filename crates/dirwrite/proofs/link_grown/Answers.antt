@@ -1,10 +1,10 @@
 -- `link_grown` meets its contract. Assumes nothing.
 use borrow.Author.Rules.{rules}
-use mathlib.Core.Path.{refl, ap, ◌∙◌}
+use mathlib.Core.Path.{refl, ◌∙◌}
 use native.Mathlib.Omega.{arith}
+use Rattle.refusal.proofs.ExitLaws.{passed}
 use Rattle.field.specs.Field.{zeros}
 use Rattle.books.proofs.KeepLaws.{kept-left}
-use Rattle.inode_setblock.specs.Set.{written_out}
 use Rattle.dirwrite.proofs.WriteLaws.{sole-long, grown-done, grown-stop}
 use Rattle.dirwrite.proofs.WriteKeeps.{keeps-resize}
 use Rattle.dirwrite.proofs.link_grown.Goals as goal
@@ -20,8 +20,8 @@ write_at-requires c =
     let l = sole-long _ _ _ _ c.sole_block.ensures in
     (s.frame, omega (arith, s.long, k.1), k.2, omega (arith, k.3, l))
 
-pub returns-in-Done : goal.returns-in-Done
-returns-in-Done c = c.write_at.ensures ∙ grown-done _ _ _ _ _ _ _ c.resize.ensures (omega arith) (ap written_out c.in-Done.is) _ refl c.sole_block.ensures
+pub returns : goal.returns
+returns c = c.write_at.ensures ∙ grown-done _ _ _ _ _ _ _ c.in_ok-resize.ensures (omega arith) refl _ refl c.sole_block.ensures
 
-pub returns-in-No : goal.returns-in-No
-returns-in-No c = grown-stop _ _ _ _ _ _ _ c.resize.ensures (omega arith) (ap written_out c.in-No.is)
+pub returns-in_err-resize : goal.returns-in_err-resize
+returns-in_err-resize c = rw (passed _ _ c.from_residual.ensures) (grown-stop _ _ _ _ _ _ _ c.in_err-resize.ensures (omega arith) refl)

@@ -1,22 +1,19 @@
--- `field::zero_bytes` meets its contract: after i turns the first i zeros are written. Assumes nothing.
+-- `field::zero_bytes` meets its contract. Assumes nothing.
 use borrow.Author.Rules.{rules}
-use native.Mathlib.Numerals.{add-one}
 use native.Mathlib.Omega.{arith}
-use lib.Seq.{take_all}
-use Rattle.field.specs.Field.{zeros}
-use Rattle.field.proofs.Laws.{put-none, length-zeros, put-zeros-more}
+use Prim.Native.Nat.{◌+◌, ◌-◌, ℕ}
+use mathlib.Core.Path.{◌≡◌, ap, ◌∙◌}
+use lib.ListN.{length, replicate}
+use borrow.Rule.Slice.PartMut.{put_mid}
+use Rattle.field.specs.Field.{part, zeros}
+use Rattle.field.proofs.Laws.{put-middle, length-part, length-zeros}
 use Rattle.field.proofs.zero_bytes.Goals as goal
 
-pub loop-i-init : goal.loop-i-init
-loop-i-init c = (search rules, search rules, rw put-none)
-
-pub loop-i-preserved : goal.loop-i-preserved
-loop-i-preserved c =
-    let s = c.args in
-    (search rules, search rules, rw (add-one, put-zeros-more s.at s.n s.dst.now c.loop-i.i (omega arith)) (cc))
-
 pub returns : goal.returns
+unfolding part zeros
 returns c =
     let s = c.args in
-    let l = length-zeros s.n in
-    cc (take_all c.loop-i.i (zeros s.n) (omega arith))
+    let run : s.at + s.n - s.at ≡ s.n = omega arith in
+    let long : length (part (s.at + s.n - s.at) s.at s.dst.now) ≡ s.n = length-part (s.at + s.n - s.at) s.at s.dst.now (omega arith) ∙ run in
+    ap (λ zs. put_mid s.at (s.at + s.n - s.at) s.dst.now zs) (c.fill.ensures.after (λ y e. e) ∙ ap (λ m. replicate m 0) long)
+    ∙ put-middle s.at s.n (zeros s.n) s.dst.now (length-zeros s.n) (omega arith)

@@ -7,4 +7,4 @@ use Rattle.inode.proofs.put_nlink.Goals as goal
 
 pub returns : goal.returns
 unfolding nlink_write
-returns c = c.put_u16.ensures ∙ sym (apply-number _ _ _ _ _)
+returns c = c.put.ensures ∙ sym (apply-number _ _ _ _ _)

@@ -7,4 +7,4 @@ use Rattle.inode.proofs.put_size.Goals as goal
 
 pub returns : goal.returns
 unfolding size_write
-returns c = c.put_u64.ensures ∙ sym (apply-number _ _ _ _ _)
+returns c = c.put.ensures ∙ sym (apply-number _ _ _ _ _)

@@ -1,5 +1,4 @@
 -- `in_zones` meets its contract. Assumes nothing.
-use borrow.Author.Rules.{rules}
 use Rattle.mapping.proofs.ZoneLaws.{start-four}
 use Rattle.inode_block.proofs.in_zones.Goals as goal
 

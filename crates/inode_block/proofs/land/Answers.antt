@@ -1,5 +1,4 @@
 -- `land` meets its contract. Assumes nothing.
-use borrow.Author.Rules.{rules}
 use mathlib.Core.Path.{sym, ◌∙◌}
 use Rattle.inode_read.proofs.CallLaws.{land-in-place, land-run}
 use Rattle.inode_block.proofs.land.Goals as goal

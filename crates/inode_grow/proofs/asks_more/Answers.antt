@@ -1,5 +1,4 @@
 -- `asks_more` meets its contract. Assumes nothing.
-use borrow.Author.Rules.{rules}
 use Rattle.inode_grow.proofs.asks_more.Goals as goal
 
 pub returns : goal.returns

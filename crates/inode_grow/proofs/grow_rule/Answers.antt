@@ -1,7 +1,5 @@
 -- `grow_rule` meets its contract. Assumes nothing.
-use borrow.Author.Rules.{rules}
-use mathlib.Core.Path.{◌≡◌, sym, ap, ◌∙◌}
-use borrow.Author.Tests.{not-true, not-false}
+use mathlib.Core.Path.{sym, ap, ◌∙◌}
 use Rattle.inode_grow.specs.Grow.{tail_held}
 use Rattle.inode_grow.proofs.GrowLaws.{grow-free, grow-asks}
 use Rattle.inode_grow.proofs.grow_rule.Goals as goal

@@ -1,6 +1,4 @@
 -- `tail_short` meets its contract. Assumes nothing.
-use borrow.Author.Rules.{rules}
-use mathlib.Core.Path.{◌≡◌, sym, ap, ◌∙◌}
 use Rattle.inode_grow.proofs.GrowLaws.{short-is}
 use Rattle.inode_grow.proofs.tail_short.Goals as goal
 

@@ -1,6 +1,4 @@
 -- `tail_then` meets its contract. Assumes nothing.
-use borrow.Author.Rules.{rules}
-use mathlib.Core.Path.{◌≡◌, sym, ap, ◌∙◌}
 use Rattle.inode_grow.proofs.GrowLaws.{then-block, then_tail}
 use Rattle.inode_grow.proofs.tail_then.Goals as goal
 

@@ -1,6 +1,4 @@
 -- `change` meets its contract. Assumes nothing.
-use borrow.Author.Rules.{rules}
-use mathlib.Core.Path.{◌≡◌, sym, ap, ◌∙◌}
 use Rattle.inode_modify.proofs.ModifyLaws.{changed-is}
 use Rattle.inode_modify.proofs.change.Goals as goal
 

@@ -1,6 +1,4 @@
 -- `modify_at` meets its contract. Assumes nothing.
-use borrow.Author.Rules.{rules}
-use mathlib.Core.Path.{◌≡◌, sym, ap, ◌∙◌}
 use Rattle.inode_modify.proofs.ModifyLaws.{modify-left}
 use Rattle.inode_modify.proofs.modify_at.Goals as goal
 

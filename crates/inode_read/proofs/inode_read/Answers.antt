@@ -1,6 +1,6 @@
 -- `inode_read` meets its contract. Assumes nothing.
-use borrow.Author.Rules.{rules}
 use mathlib.Core.Path.{sym, ap, ◌∙◌}
+use Rattle.refusal.proofs.ExitLaws.{passed}
 use Rattle.inode_read.specs.Calls.{read_answer}
 use Rattle.inode_read.proofs.JudgeLaws.{known-got, known-refused, place-stands}
 use Rattle.inode_read.proofs.CallLaws.{read_found_lem}
@@ -8,13 +8,13 @@ use Rattle.inode_read.proofs.inode_read.Goals as goal
 
 pub read_found-requires : goal.read_found-requires
 read_found-requires c =
-    let p = place-stands _ _ _ (known-got _ _ _ (sym c.in-At.is ∙ c.know_inode.ensures)) in
+    let p = place-stands _ _ _ (known-got _ _ _ c.in_ok-geo.ensures) in
     (p.frame, p.named.place.inside)
 
-pub returns-in-At : goal.returns-in-At
-returns-in-At c =
+pub returns : goal.returns
+returns c =
     c.read_found.ensures
-    ∙ sym (ap read_answer (read_found_lem _ _ _ (known-got _ _ _ (sym c.in-At.is ∙ c.know_inode.ensures)) _ _))
+    ∙ sym (ap read_answer (read_found_lem _ _ _ (known-got _ _ _ c.in_ok-geo.ensures) _ _))
 
-pub returns-in-No : goal.returns-in-No
-returns-in-No c = sym (ap read_answer (read_found_lem _ _ _ (known-refused _ _ (sym c.in-No.is ∙ c.know_inode.ensures)) _ _))
+pub returns-in_err-geo : goal.returns-in_err-geo
+returns-in_err-geo c = let p = passed _ _ c.from_residual.ensures in rw p (sym (ap read_answer (read_found_lem _ _ _ (known-refused _ _ c.in_err-geo.ensures) _ _)))

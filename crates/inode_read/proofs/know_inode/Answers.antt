@@ -1,17 +1,17 @@
 -- `know_inode` meets its contract. Assumes nothing.
-use borrow.Author.Rules.{rules}
 use mathlib.Core.Path.{sym, ◌∙◌}
+use Rattle.refusal.proofs.ExitLaws.{passed}
 use Rattle.inode_read.proofs.JudgeLaws.{taken-frame, known-unsound, known_at, known-no}
 use Rattle.inode_read.proofs.know_inode.Goals as goal
 
 pub find_inode-requires : goal.find_inode-requires
-find_inode-requires c = taken-frame _ _ (sym c.take_volume.ensures ∙ c.in-Sound.is)
+find_inode-requires c = taken-frame _ _ (sym c.in_ok-geo.ensures)
 
-pub returns-in-At : goal.returns-in-At
-returns-in-At c = known_at _ _ _ (sym c.take_volume.ensures ∙ c.in-Sound.is) _ (sym c.in-At.is ∙ c.find_inode.ensures)
+pub returns : goal.returns
+returns c = known_at _ _ _ (sym c.in_ok-geo.ensures) _ c.in_ok-s.ensures
 
-pub returns-in-No : goal.returns-in-No
-returns-in-No c = known-no _ _ _ (sym c.take_volume.ensures ∙ c.in-Sound.is) _ (sym c.in-No.is ∙ c.find_inode.ensures)
+pub returns-in_err-geo : goal.returns-in_err-geo
+returns-in_err-geo c = passed _ _ c.from_residual.ensures ∙ known-unsound _ _ (sym c.in_err-geo.ensures)
 
-pub returns-in-Unsound : goal.returns-in-Unsound
-returns-in-Unsound c = known-unsound _ _ (sym c.take_volume.ensures ∙ c.in-Unsound.is)
+pub returns-in_err-s : goal.returns-in_err-s
+returns-in_err-s c = passed _ _ c.from_residual-in_err-s.ensures ∙ known-no _ _ _ (sym c.in_ok-geo.ensures) _ c.in_err-s.ensures

@@ -1,12 +1,8 @@
 -- `read_at` meets its contract: after each turn the blocks before block i are read. Assumes nothing.
-use borrow.Author.Rules.{rules}
-use borrow.Author.Tests.{not-true, not-false}
-use mathlib.Core.Path.{◌≡◌, refl, sym, ◌∙◌}
-use Prim.Native.Nat.{◌+◌, ◌-◌, ◌≤◌}
-use native.Mathlib.Omega.{arith}
+use mathlib.Core.Path.{◌≡◌}
+use Prim.Native.Nat.{◌-◌, ◌≤◌}
 use lib.ListN.{length}
-use Rattle.inode_read.proofs.ReachLaws.{block-some, run-reaches}
-use Rattle.inode_read.proofs.ReadLaws.{Reading, reading-start, reading-stop, reading-next, reading-end, turn_small, turn-piece, reading-long}
+use Rattle.inode_read.proofs.ReadLaws.{Reading}
 use Rattle.inode_read.proofs.read_at.Given as goal
 
 abbrev pub invariant-loop-done : goal.invariant-loop-done

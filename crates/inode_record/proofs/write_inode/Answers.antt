@@ -1,5 +1,4 @@
 -- `write_inode` meets its contract. Assumes nothing.
-use borrow.Author.Rules.{rules}
 use Rattle.inode_record.specs.Record.{slots, inode_store}
 use Rattle.inode_record.proofs.SlotLaws.{slots-then}
 use Rattle.inode_record.proofs.write_inode.Goals as goal

@@ -1,8 +1,6 @@
 -- `find_inode` meets its contract. Assumes nothing.
-use borrow.Author.Rules.{rules}
-use borrow.Author.Tests.{not-true, not-false}
-use mathlib.Core.Path.{◌≡◌, sym, ap, ◌∙◌}
-use Rattle.inode_run.specs.Find.{found_of, spot_of}
+use mathlib.Core.Path.{sym, ap, ◌∙◌}
+use Rattle.inode_run.specs.Find.{found_of}
 use Rattle.inode_run.proofs.FindLaws.{spot-is, number-is, find-number, find-untyped, find-got}
 use Rattle.inode_run.proofs.find_inode.Goals as goal
 

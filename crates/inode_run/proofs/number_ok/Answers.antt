@@ -1,5 +1,4 @@
 -- `number_ok` meets its contract. Assumes nothing.
-use borrow.Author.Rules.{rules}
 use Rattle.inode_run.specs.Find.{number_ok}
 use Rattle.inode_run.proofs.number_ok.Goals as goal
 

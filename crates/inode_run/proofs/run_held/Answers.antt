@@ -1,6 +1,5 @@
 -- `run_held` meets its contract. Assumes nothing.
-use borrow.Author.Rules.{rules}
-use mathlib.Core.Path.{◌≡◌, sym, ◌∙◌}
+use mathlib.Core.Path.{sym, ◌∙◌}
 use Rattle.inode_run.proofs.RunLaws.{run-good, run-wrong, run-hole, run-bad, run_past}
 use Rattle.inode_run.proofs.run_held.Goals as goal
 

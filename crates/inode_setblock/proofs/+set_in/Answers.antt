@@ -1,9 +1,9 @@
 -- `set_in` meets its contract, below how many lists are below. Assumes nothing.
-use mathlib.Core.Path.{refl, sym, ap, ◌∙◌}
+use mathlib.Core.Path.{refl, sym, ◌∙◌}
 use native.Mathlib.Omega.{arith}
 use Rattle.inode.proofs.SizeLaws.{units}
 use Rattle.mapping.proofs.MappingLaws.{per-some}
-use Rattle.balloc_give.specs.Give.{zeroed_out}
+use Rattle.refusal.proofs.ExitLaws.{passed}
 use Rattle.books.proofs.SteadyLaws.{steady-refl}
 use Rattle.inode_setblock.proofs.SetLaws.{set-bad, set_here, set_next, set-none, span-some, slot-in, rest_in, last_in}
 use Rattle.inode_setblock.proofs.SetKeeps.{next-always, kept-by}
@@ -35,14 +35,14 @@ nonzero_rem-rest t c = span-some _ _ _ (per-some _ _ c.requires.0) c.span_of-eac
 pub set_in-requires : goal.set_in-requires
 set_in-requires t c =
     let some = per-some _ _ c.requires.0 in
-    let s = kept-by _ (next-always _ _ _ (steady-refl _ _ c.requires.0) _ _ (sym c.run_ok.ensures ∙ c.if-not-run_ok.false) (slot-in _ _ _ some c.span_of-each.ensures.0 _ c.requires.2)) c.next_list.ensures in
+    let s = kept-by _ (next-always _ _ _ (steady-refl _ _ c.requires.0) _ _ (sym c.run_ok.ensures ∙ c.if-not-run_ok.false) (slot-in _ _ _ some c.span_of-each.ensures.0 _ c.requires.2)) c.in_ok-e.ensures in
     (omega (arith, c.decreases, c.if-below-eq0.false), (s.frame, omega (arith, c.requires.1), rest_in _ _ _ some c.span_of-each.ensures.0 _ c.if-below-eq0.false))
 
-pub returns-in-Block : goal.returns-in-Block
-returns-in-Block t c =
+pub returns : goal.returns
+returns t c =
     c.set_in.ensures
-    ∙ set_next _ _ _ _ _ (sym c.run_ok.ensures ∙ c.if-not-run_ok.false) _ _ _ _ c.if-below-eq0.false c.span_of-each.ensures.0 refl refl c.next_list.ensures (ap zeroed_out c.in-Block.is)
+    ∙ set_next _ _ _ _ _ (sym c.run_ok.ensures ∙ c.if-not-run_ok.false) _ _ _ _ c.if-below-eq0.false c.span_of-each.ensures.0 refl refl c.in_ok-e.ensures refl
 
-pub returns-in-No : goal.returns-in-No
-returns-in-No t c =
-    set-none _ _ _ _ _ (sym c.run_ok.ensures ∙ c.if-not-run_ok.false) _ _ 0 _ c.if-below-eq0.false c.span_of-each.ensures.0 refl c.next_list.ensures (ap zeroed_out c.in-No.is)
+pub returns-in_err-e : goal.returns-in_err-e
+returns-in_err-e t c =
+    rw (passed _ _ c.from_residual.ensures) (set-none _ _ _ _ _ (sym c.run_ok.ensures ∙ c.if-not-run_ok.false) _ _ 0 _ c.if-below-eq0.false c.span_of-each.ensures.0 refl c.in_err-e.ensures refl)

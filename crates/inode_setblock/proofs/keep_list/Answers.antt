@@ -1,5 +1,4 @@
 -- `keep_list` meets its contract. Assumes nothing.
-use borrow.Author.Rules.{rules}
 use native.Mathlib.Omega.{arith}
 use Rattle.mapping.proofs.MappingLaws.{list_inside}
 use Rattle.inode.proofs.SizeLaws.{units}

@@ -1,5 +1,4 @@
 -- `put_entry` meets its contract. Assumes nothing.
-use borrow.Author.Rules.{rules}
 use native.Mathlib.Omega.{arith}
 use Rattle.mapping.proofs.MappingLaws.{entry-inside, list_inside}
 use Rattle.inode_setblock.proofs.SetLaws.{entry-made}
@@ -14,8 +13,8 @@ overflow_mul-at c = let h = c.requires in omega (arith, entry-inside _ _ h.0 _ _
 pub overflow_add-at : goal.overflow_add-at
 overflow_add-at c = let h = c.requires in omega (arith, entry-inside _ _ h.0 _ _ h.1 h.2, h.0.laid.high, c.address_at.ensures)
 
-pub put_u64-requires : goal.put_u64-requires
-put_u64-requires c = let h = c.requires in omega (arith, entry-inside _ _ h.0 _ _ h.1 h.2, c.address_at.ensures)
+pub put-requires : goal.put-requires
+put-requires c = let h = c.requires in omega (arith, entry-inside _ _ h.0 _ _ h.1 h.2, c.address_at.ensures)
 
 pub returns : goal.returns
-returns c = entry-made _ _ _ _ _ _ c.address_at.ensures c.put_u64.ensures
+returns c = entry-made _ _ _ _ _ _ c.address_at.ensures c.put.ensures

@@ -1,5 +1,4 @@
 -- `put_list` meets its contract. Assumes nothing.
-use borrow.Author.Rules.{rules}
 use native.Mathlib.Omega.{arith}
 use mathlib.Core.Path.{ap, ◌∙◌}
 use lib.ListN.{length}
@@ -23,8 +22,8 @@ overflow_mul-slot c = let h = c.requires in omega (arith, entry-inside _ _ h.0 _
 pub overflow_add-at : goal.overflow_add-at
 overflow_add-at c = let h = c.requires in omega (arith, entry-inside _ _ h.0 _ _ h.1 h.2, h.0.laid.high, c.address_at-at.ensures)
 
-pub put_u64-requires : goal.put_u64-requires
-put_u64-requires c = let h = c.requires in omega (arith, entry-inside _ _ h.0 _ _ h.1 h.2, c.address_at-at.ensures, ap length c.copy_bytes.ensures ∙ length-put _ _ _)
+pub put-requires : goal.put-requires
+put-requires c = let h = c.requires in omega (arith, entry-inside _ _ h.0 _ _ h.1 h.2, c.address_at-at.ensures, ap length c.copy_bytes.ensures ∙ length-put _ _ _)
 
 pub returns : goal.returns
-returns c = list-made _ _ _ _ _ _ c.address_at-at.ensures _ c.copy_bytes.ensures c.put_u64.ensures
+returns c = list-made _ _ _ _ _ _ c.address_at-at.ensures _ c.copy_bytes.ensures c.put.ensures

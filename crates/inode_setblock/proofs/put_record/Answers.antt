@@ -1,5 +1,4 @@
 -- `put_record` meets its contract. Assumes nothing.
-use borrow.Author.Rules.{rules}
 use Rattle.inode_setblock.proofs.SetLaws.{record_made}
 use Rattle.inode_setblock.proofs.put_record.Goals as goal
 

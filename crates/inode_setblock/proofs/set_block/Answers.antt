@@ -1,5 +1,4 @@
 -- `set_block` meets its contract. Assumes nothing.
-use borrow.Author.Rules.{rules}
 use mathlib.Core.Path.{sym, ◌∙◌}
 use Rattle.inode.proofs.SizeLaws.{units}
 use Rattle.mapping.proofs.ZoneLaws.{under_good}

@@ -1,5 +1,4 @@
 -- `set_under` meets its contract. Assumes nothing.
-use borrow.Author.Rules.{rules}
 use mathlib.Core.Path.{◌∙◌}
 use native.Mathlib.Omega.{arith}
 use Rattle.inode_setblock.proofs.SetLaws.{under-direct, under-new, under-old, one-below}

@@ -1,5 +1,4 @@
 -- `entry_in` meets its contract. Assumes nothing.
-use borrow.Author.Rules.{rules}
 use Rattle.inode_shrink.specs.Shrink.{entry_in}
 use Rattle.inode_shrink.proofs.entry_in.Goals as goal
 

@@ -1,21 +1,12 @@
 -- `free_lists` meets its contract: the lists from place i on, in the image as it is, lead to what all of them lead to at first. Assumes nothing.
-use borrow.Author.Rules.{rules}
-use mathlib.Core.Path.{◌≡◌, refl, sym, ap, ◌∙◌}
-use mathlib.Core.List.{List}
+use mathlib.Core.Path.{refl}
 use native.Mathlib.Omega.{arith}
-use Prim.Native.Nat.{ℕ, ◌+◌, ◌-◌, ◌≤◌, ◌<◌}
-use Rattle.store.specs.Act.{Out, got, refused, Act, each, leaves}
-use Rattle.store.proofs.ActLaws.{each-end, each-good, each-bad}
-use Rattle.volume.specs.declared.Geometry.{Geometry}
-use Rattle.inode.specs.declared.Shape.{Shape}
+use Prim.Native.Nat.{◌-◌}
+use Rattle.refusal.proofs.ExitLaws.{passed}
 use Rattle.inode.proofs.SizeLaws.{units}
-use Rattle.mapping.specs.Mapping.{per_list}
-use Rattle.books.specs.Books.{Steady}
 use Rattle.books.proofs.SteadyLaws.{steady-refl, steady-trans}
 use Rattle.books.proofs.KeepLaws.{kept-left}
-use Rattle.ialloc_tree.specs.Tree.{free_tree, freed_out}
 use Rattle.ialloc_tree.proofs.TreeLaws.{keeps-tree}
-use Rattle.inode_shrink.specs.Shrink.{entry_in, free_lists}
 use Rattle.inode_shrink.proofs.ShrinkLaws.{lists-left, lists-good, lists-bad, lists-end, per_bytes}
 use Rattle.inode_shrink.proofs.free_lists.Goals as goal
 
@@ -33,22 +24,15 @@ entry_in-next-requires c =
 pub free_address-requires : goal.free_address-requires
 free_address-requires c = c.loop-i.invariant.steady.frame
 
-pub returns-in-No : goal.returns-in-No
-returns-in-No c =
-    lists-bad _ _ _ _ c.per_list-per.ensures.0 _ _ _ _ c.loop-i.invariant.same c.loop-i-test.true _ c.entry_in-next.ensures c.free_address.ensures (ap freed_out c.in-No.is)
-
-pub overflow_add-i : goal.overflow_add-i
-overflow_add-i c =
-    omega (arith, c.loop-i-test.true, c.per_list-per.ensures.1)
-
-pub loop-i-smaller : goal.loop-i-smaller
-loop-i-smaller c = omega (arith, c.loop-i-test.true)
+pub returns-in_err-left : goal.returns-in_err-left
+returns-in_err-left c =
+    rw (passed _ _ c.from_residual.ensures) (lists-bad _ _ _ _ c.per_list-per.ensures.0 _ _ _ _ c.loop-i.invariant.same c.loop-i-test.true _ c.entry_in-next.ensures c.in_err-left.ensures refl)
 
 pub loop-i-preserved : goal.loop-i-preserved
 loop-i-preserved c =
     record {
-      steady = steady-trans _ c.loop-i.invariant.steady (kept-left _ (keeps-tree _ _ _ _ _ _) c.loop-i.invariant.steady.frame c.free_address.ensures);
-      same = lists-good _ _ _ _ c.per_list-per.ensures.0 _ _ _ _ c.loop-i.invariant.same c.loop-i-test.true _ c.entry_in-next.ensures c.free_address.ensures (ap freed_out c.in-Held.is);
+      steady = steady-trans _ c.loop-i.invariant.steady (kept-left _ (keeps-tree _ _ _ _ _ _) c.loop-i.invariant.steady.frame c.in_ok-left.ensures);
+      same = lists-good _ _ _ _ c.per_list-per.ensures.0 _ _ _ _ c.loop-i.invariant.same c.loop-i-test.true _ c.entry_in-next.ensures c.in_ok-left.ensures refl;
     }
 
 pub returns : goal.returns

@@ -1,6 +1,4 @@
 -- `put_root` meets its contract: a list that is a run lies in the image. Assumes nothing.
-use borrow.Author.Rules.{rules}
-use mathlib.Core.Path.{◌≡◌, sym, ◌∙◌}
 use native.Mathlib.Omega.{arith}
 use Rattle.inode.proofs.SizeLaws.{units}
 use Rattle.inode_shrink.proofs.ShrinkLaws.{list_bytes}

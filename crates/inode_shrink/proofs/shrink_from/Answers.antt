@@ -1,12 +1,10 @@
 -- `shrink_from` meets its contract: the root at hand is what stood at its address when the call came. Assumes nothing.
-use borrow.Author.Rules.{rules}
-use mathlib.Core.Path.{◌≡◌, sym, ap, ◌∙◌}
+use mathlib.Core.Path.{refl, ◌∙◌}
 use native.Mathlib.Omega.{arith}
-use Rattle.books.specs.Books.{Steady}
+use Rattle.refusal.proofs.ExitLaws.{passed}
 use Rattle.books.proofs.SteadyLaws.{steady-trans, steady-run}
 use Rattle.books.proofs.KeepLaws.{kept-left}
 use Rattle.mapping.proofs.MappingLaws.{per-most}
-use Rattle.ialloc_tree.specs.Tree.{freed_out}
 use Rattle.inode_shrink.proofs.ShrinkLaws.{per_bytes, root-apply, list-at-hand, lists-at-hand, from-stopped, from-refused, from-done, keeps-shrink-list, keeps-lists}
 use Rattle.inode_shrink.proofs.shrink_from.Goals as goal
 
@@ -19,32 +17,32 @@ overflow_add-high c = let k = c.requires in omega (arith, k.3, per-most _ _ k.0)
 pub free_lists-requires : goal.free_lists-requires
 free_lists-requires c =
     let k = c.requires in
-    ((kept-left _ (keeps-shrink-list _ _ _ _ _ _ k.4) k.0 c.shrink_list.ensures).frame, k.5.room)
+    ((kept-left _ (keeps-shrink-list _ _ _ _ _ _ k.4) k.0 c.in_ok-n.ensures).frame, k.5.room)
 
-pub overflow_add-high-in-Held-free_lists : goal.overflow_add-high-in-Held-free_lists
-overflow_add-high-in-Held-free_lists c = let k = c.requires in omega (arith, k.3, per-most _ _ k.0)
+pub overflow_add-high-2 : goal.overflow_add-high-2
+overflow_add-high-2 c = let k = c.requires in omega (arith, k.3, per-most _ _ k.0)
 
 pub put_root-requires : goal.put_root-requires
 put_root-requires c =
     let k = c.requires in
-    let one = kept-left _ (keeps-shrink-list _ _ _ _ _ _ k.4) k.0 c.shrink_list.ensures in
-    let two = steady-trans _ one (kept-left _ (keeps-lists _ _ _ _ _) one.frame c.free_lists.ensures) in
+    let one = kept-left _ (keeps-shrink-list _ _ _ _ _ _ k.4) k.0 c.in_ok-n.ensures in
+    let two = steady-trans _ one (kept-left _ (keeps-lists _ _ _ _ _) one.frame c.in_ok-m.ensures) in
     (two.frame, steady-run _ two _ _ ∙ k.1, k.5.room, omega (arith, k.3))
 
-pub returns-in-Held-free_lists : goal.returns-in-Held-free_lists
-returns-in-Held-free_lists c =
+pub returns : goal.returns
+returns c =
     let k = c.requires in
-    from-done _ _ _ _ _ _ _ _ _ (list-at-hand _ _ _ _ _ _ _ _ k.0 k.1 _ k.5 _ c.entry_in.ensures k.3 c.shrink_list.ensures) _ (ap freed_out c.in-Held.is)
-    (lists-at-hand _ _ _ _ k.0 k.1 _ k.5 _ _ _ c.free_lists.ensures) (ap freed_out c.in-Held-free_lists.is)
+    from-done _ _ _ _ _ _ _ _ _ (list-at-hand _ _ _ _ _ _ _ _ k.0 k.1 _ k.5 _ c.entry_in.ensures k.3 c.in_ok-n.ensures) _ refl
+    (lists-at-hand _ _ _ _ k.0 k.1 _ k.5 _ _ _ c.in_ok-m.ensures) refl
     (c.put_root.ensures ∙ root-apply _ _ k.0 _ k.1 _ k.5 _ (omega (arith, k.3)) _)
 
-pub returns-in-No-free_lists : goal.returns-in-No-free_lists
-returns-in-No-free_lists c =
+pub returns-in_err-m : goal.returns-in_err-m
+returns-in_err-m c =
     let k = c.requires in
-    from-refused _ _ _ _ _ _ _ _ _ (list-at-hand _ _ _ _ _ _ _ _ k.0 k.1 _ k.5 _ c.entry_in.ensures k.3 c.shrink_list.ensures) _ (ap freed_out c.in-Held.is)
-    (lists-at-hand _ _ _ _ k.0 k.1 _ k.5 _ _ _ c.free_lists.ensures) (ap freed_out c.in-No-free_lists.is)
+    rw (passed _ _ c.from_residual-in_err-m.ensures) (from-refused _ _ _ _ _ _ _ _ _ (list-at-hand _ _ _ _ _ _ _ _ k.0 k.1 _ k.5 _ c.entry_in.ensures k.3 c.in_ok-n.ensures) _ refl
+    (lists-at-hand _ _ _ _ k.0 k.1 _ k.5 _ _ _ c.in_err-m.ensures) refl)
 
-pub returns-in-No : goal.returns-in-No
-returns-in-No c =
+pub returns-in_err-n : goal.returns-in_err-n
+returns-in_err-n c =
     let k = c.requires in
-    from-stopped _ _ _ _ _ _ _ _ _ (list-at-hand _ _ _ _ _ _ _ _ k.0 k.1 _ k.5 _ c.entry_in.ensures k.3 c.shrink_list.ensures) (ap freed_out c.in-No.is)
+    rw (passed _ _ c.from_residual.ensures) (from-stopped _ _ _ _ _ _ _ _ _ (list-at-hand _ _ _ _ _ _ _ _ k.0 k.1 _ k.5 _ c.entry_in.ensures k.3 c.in_err-n.ensures) refl)

@@ -1,10 +1,8 @@
 -- `shrink_list` meets its contract. Assumes nothing.
-use borrow.Author.Rules.{rules}
-use borrow.Author.Tests.{not-true, not-false}
-use mathlib.Core.Path.{◌≡◌, sym, ap, ◌∙◌}
+use mathlib.Core.Path.{refl, sym, ◌∙◌}
+use Rattle.refusal.proofs.ExitLaws.{passed}
 use Rattle.books.proofs.SteadyLaws.{steady-run}
 use Rattle.books.proofs.KeepLaws.{kept-left}
-use Rattle.ialloc_tree.specs.Tree.{freed_out}
 use Rattle.inode_shrink.proofs.ShrinkLaws.{shrink-none, shrink-bad, shrink-refused, shrink-done, keeps-rest}
 use Rattle.inode_shrink.proofs.shrink_list.Goals as goal
 
@@ -22,13 +20,13 @@ free_rest-requires c =
 pub zero_rest-requires : goal.zero_rest-requires
 zero_rest-requires c =
     let k = c.requires in
-    let st = kept-left _ (keeps-rest _ _ _ _ _ _) k.0 c.free_rest.ensures in
+    let st = kept-left _ (keeps-rest _ _ _ _ _ _) k.0 c.in_ok-n.ensures in
     (st.frame, steady-run _ st _ _ ∙ sym c.run_ok.ensures ∙ c.if-not-run_ok.false, k.2)
 
-pub returns-in-Held : goal.returns-in-Held
-returns-in-Held c =
-    shrink-done _ _ _ _ _ _ _ c.if-a-eq0.false (sym c.run_ok.ensures ∙ c.if-not-run_ok.false) c.free_rest.ensures (ap freed_out c.in-Held.is) c.zero_rest.ensures
+pub returns : goal.returns
+returns c =
+    shrink-done _ _ _ _ _ _ _ c.if-a-eq0.false (sym c.run_ok.ensures ∙ c.if-not-run_ok.false) c.in_ok-n.ensures refl c.zero_rest.ensures
 
-pub returns-in-No : goal.returns-in-No
-returns-in-No c =
-    shrink-refused _ _ _ _ _ _ _ c.if-a-eq0.false (sym c.run_ok.ensures ∙ c.if-not-run_ok.false) c.free_rest.ensures (ap freed_out c.in-No.is)
+pub returns-in_err-n : goal.returns-in_err-n
+returns-in_err-n c =
+    rw (passed _ _ c.from_residual.ensures) (shrink-refused _ _ _ _ _ _ _ c.if-a-eq0.false (sym c.run_ok.ensures ∙ c.if-not-run_ok.false) c.in_err-n.ensures refl)

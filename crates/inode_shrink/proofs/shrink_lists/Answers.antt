@@ -1,12 +1,9 @@
 -- `shrink_lists` meets its contract: the root is copied before anything is stored. Assumes nothing.
-use borrow.Author.Rules.{rules}
-use borrow.Author.Tests.{not-true, not-false}
-use mathlib.Core.Path.{◌≡◌, refl, sym, ap, ◌∙◌}
-use native.Mathlib.Nat.{mod-lt, div-lt_iff_lt-mul, div-mul-le_self}
+use mathlib.Core.Path.{sym, ◌∙◌}
 use native.Mathlib.Omega.{arith}
 use Rattle.inode.proofs.SizeLaws.{units}
 use Rattle.mapping.proofs.MappingLaws.{per-some, per-most}
-use Rattle.inode_shrink.proofs.ShrinkLaws.{list_bytes, copied, lists-none, lists-not, lists-from, high-below, low-below, first-below}
+use Rattle.inode_shrink.proofs.ShrinkLaws.{lists-none, lists-not, lists-from, high-below, low-below, first-below}
 use Rattle.inode_shrink.proofs.shrink_lists.Goals as goal
 
 pub returns-then-a-eq0 : goal.returns-then-a-eq0

@@ -1,5 +1,4 @@
 -- `first_gone` meets its contract. Assumes nothing.
-use borrow.Author.Rules.{rules}
 use native.Mathlib.Omega.{arith}
 use Rattle.inode_truncate.proofs.RecordLaws.{gone-direct, gone-second, gone-third}
 use Rattle.inode_truncate.proofs.first_gone.Goals as goal

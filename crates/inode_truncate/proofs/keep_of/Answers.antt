@@ -1,6 +1,5 @@
 -- `keep_of` meets its contract. Assumes nothing.
-use borrow.Author.Rules.{rules}
-use mathlib.Core.Path.{◌≡◌, sym, ap, ◌∙◌}
+use mathlib.Core.Path.{sym}
 use native.Mathlib.Omega.{arith}
 use Rattle.inode_truncate.proofs.KeepLaws.{keep-tail, keep-whole, blocks-few}
 use Rattle.inode_truncate.proofs.keep_of.Goals as goal

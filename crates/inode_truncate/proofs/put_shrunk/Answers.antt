@@ -1,6 +1,5 @@
 -- `put_shrunk` meets its contract. Assumes nothing.
-use borrow.Author.Rules.{rules}
-use mathlib.Core.Path.{◌≡◌, sym, ap, ◌∙◌}
+use mathlib.Core.Path.{ap, ◌∙◌}
 use Rattle.inode.proofs.SizeLaws.{units}
 use Rattle.inode_truncate.specs.Truncate.{first_gone}
 use Rattle.inode_truncate.proofs.RecordLaws.{shrunk-apply}

@@ -1,20 +1,13 @@
 -- `shrink_direct` meets its contract: the addresses from i on, in the image as it is, lead to what all of them lead to at first. Assumes nothing.
-use borrow.Author.Rules.{rules}
-use mathlib.Core.Path.{◌≡◌, refl, sym, ap, ◌∙◌}
+use mathlib.Core.Path.{◌≡◌}
 use mathlib.Core.List.{List}
-use native.Mathlib.Omega.{arith}
-use Prim.Native.Nat.{ℕ, ◌+◌, ◌-◌, ◌≤◌, ◌<◌}
-use lib.ListN.{length}
-use Rattle.store.specs.Act.{Act, each, leaves}
+use Prim.Native.Nat.{ℕ, ◌-◌}
+use Rattle.store.specs.Act.{each, leaves}
 use Rattle.volume.specs.declared.Geometry.{Geometry}
 use Rattle.inode.specs.declared.Shape.{Shape}
 use Rattle.books.specs.Books.{Steady}
-use Rattle.books.proofs.SteadyLaws.{steady-refl, steady-trans}
-use Rattle.books.proofs.KeepLaws.{kept-left}
-use Rattle.ialloc_tree.specs.Tree.{free_tree, freed_out}
-use Rattle.ialloc_tree.proofs.TreeLaws.{keeps-tree}
+use Rattle.ialloc_tree.specs.Tree.{free_tree}
 use Rattle.inode_truncate.specs.Truncate.{at_address, shrink_direct}
-use Rattle.inode_truncate.proofs.ZoneLaws.{direct-left, direct_good, direct-bad, direct-end}
 use Rattle.inode_truncate.proofs.shrink_direct.Given as goal
 
 pub record Going (geo : Geometry) (at : ℕ) (s : Shape) (keep held : ℕ) (start img : List ℕ) (left i : ℕ) : Type 0 where
@@ -23,6 +16,3 @@ pub record Going (geo : Geometry) (at : ℕ) (s : Shape) (keep held : ℕ) (star
 
 abbrev pub invariant-loop-i : goal.invariant-loop-i
 invariant-loop-i l = Going l.geo l.at l.s l.keep l.held l.initial.img l.img l.left l.i
-
-abbrev pub decreases-loop-i : goal.decreases-loop-i
-decreases-loop-i l = 12 - l.i

@@ -1,6 +1,4 @@
 -- `shrink_low` meets its contract. Assumes nothing.
-use borrow.Author.Rules.{rules}
-use mathlib.Core.Path.{◌≡◌, sym, ap, ◌∙◌}
 use native.Mathlib.Omega.{arith}
 use Rattle.inode_truncate.proofs.ZoneLaws.{low_part, first-room}
 use Rattle.inode_truncate.proofs.shrink_low.Goals as goal

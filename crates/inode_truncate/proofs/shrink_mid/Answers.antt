@@ -1,6 +1,4 @@
 -- `shrink_mid` meets its contract. Assumes nothing.
-use borrow.Author.Rules.{rules}
-use mathlib.Core.Path.{◌≡◌, sym, ap, ◌∙◌}
 use native.Mathlib.Omega.{arith}
 use Rattle.inode.proofs.SizeLaws.{units}
 use Rattle.mapping.proofs.MappingLaws.{per-most}

@@ -1,5 +1,4 @@
 -- `in_limit` meets its contract. Assumes nothing.
-use borrow.Author.Rules.{rules}
 use native.Mathlib.Omega.{arith}
 use Prim.Native.Nat.{◌+◌}
 use Rattle.inode_write.proofs.CallLaws.{limit_is, limit-fits, past-limit, at-limit}

@@ -1,6 +1,5 @@
 -- `judge_write` meets its contract. Assumes nothing.
-use borrow.Author.Rules.{rules}
-use borrow.Author.Tests.{not-true, not-false, leb-true}
+use borrow.Author.Tests.{leb-true}
 use mathlib.Core.Path.{sym, ◌∙◌}
 use native.Mathlib.Omega.{arith}
 use Prim.Native.Nat.{◌+◌}
@@ -32,4 +31,4 @@ overflow_add-off c =
 pub returns : goal.returns
 returns c =
     c.grow_rule.ensures
-    ∙ judged-grow _ _ _ _ _ _ c.is_in_place.ensures c.if-n-is_in_place.false _ c.is_sized.ensures c.if-n-is_sized.false _ c.in_limit.ensures (c.if-not-in_limit.false) _ c.most.ensures
+    ∙ judged-grow _ _ _ _ _ _ c.is_in_place.ensures c.if-n-is_in_place.false _ c.is_sized.ensures c.if-n-is_sized.false _ c.in_limit.ensures (c.if-not-in_limit.false) _ c.max.ensures

@@ -1,5 +1,4 @@
 -- `put_fresh` meets its contract. Assumes nothing.
-use borrow.Author.Rules.{rules}
 use Rattle.inode_write.proofs.WriteLaws.{fresh-made}
 use Rattle.inode_write.proofs.put_fresh.Goals as goal
 

@@ -1,5 +1,4 @@
 -- `write_block` meets its contract. Assumes nothing.
-use borrow.Author.Rules.{rules}
 use mathlib.Core.Path.{sym, ◌∙◌}
 use native.Mathlib.Omega.{arith}
 use Rattle.frame.proofs.Places.{run_inside}

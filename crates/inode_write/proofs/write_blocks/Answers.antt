@@ -1,18 +1,16 @@
 -- `write_blocks` meets its contract: after each turn the blocks before block i are written. Assumes nothing.
-use borrow.Author.Rules.{rules}
-use mathlib.Core.Path.{◌≡◌, ap}
+use mathlib.Core.Path.{◌≡◌, refl}
 use mathlib.Core.List.{List}
 use native.Mathlib.Omega.{arith}
-use Prim.Native.Nat.{ℕ, ◌-◌, ◌≤◌, ◌<◌, min}
+use Prim.Native.Nat.{ℕ, ◌-◌, ◌<◌, min}
 use lib.ListN.{length}
+use Rattle.refusal.proofs.ExitLaws.{passed}
 use Rattle.volume.specs.declared.Geometry.{Geometry}
 use Rattle.inode_read.proofs.ReachLaws.{block-some}
-use Rattle.inode_read.proofs.ReadLaws.{Turn, Piece, turn-start, turn-next, turn_small, turn-piece}
-use Rattle.books.specs.Books.{Steady}
+use Rattle.inode_read.proofs.ReadLaws.{Piece, turn-start, turn-next, turn_small, turn-piece}
 use Rattle.books.proofs.SteadyLaws.{steady-refl, steady-trans}
 use Rattle.books.proofs.KeepLaws.{kept-left}
-use Rattle.inode_write.specs.Write.{counted_out}
-use Rattle.inode_write.proofs.WriteLaws.{Rest, rest-start, rest-next, rest-stop, rest_end}
+use Rattle.inode_write.proofs.WriteLaws.{rest-start, rest-next, rest-stop, rest_end}
 use Rattle.inode_write.proofs.WriteKeeps.{keeps_piece}
 use Rattle.inode_write.proofs.write_blocks.Invariants.{Going}
 use Rattle.inode_write.proofs.write_blocks.Goals as goal
@@ -41,16 +39,16 @@ pub write_block-requires : goal.write_block-requires
 write_block-requires c =
     let k = c.requires in
     let g = c.loop-done.invariant in
-    let p = piece g c.loop-done-test.true _ c.least-num.ensures in
+    let p = piece g c.loop-done-test.true _ c.min-num.ensures in
     (g.steady.frame, omega (arith, g.steady.long, k.1), k.2, p.some, p.within_block, omega (arith, p.reach, k.4), p.asked)
 
-pub returns-in-No : goal.returns-in-No
-returns-in-No c =
+pub returns-in_err-all : goal.returns-in_err-all
+returns-in_err-all c =
     let g = c.loop-done.invariant in
-    rest-stop _ _ _ _ _ g.some _ _ _ _ _ g.turn _ _ g.rest c.loop-done-test.true _ c.least-num.ensures c.write_block.ensures (ap counted_out c.in-No.is)
+    rw (passed _ _ c.from_residual.ensures) (rest-stop _ _ _ _ _ g.some _ _ _ _ _ g.turn _ _ g.rest c.loop-done-test.true _ c.min-num.ensures c.in_err-all.ensures refl)
 
 pub overflow_add-done : goal.overflow_add-done
-overflow_add-done c = omega (arith, (piece c.loop-done.invariant c.loop-done-test.true _ c.least-num.ensures).asked)
+overflow_add-done c = omega (arith, (piece c.loop-done.invariant c.loop-done-test.true _ c.min-num.ensures).asked)
 
 pub overflow_add-i : goal.overflow_add-i
 overflow_add-i c =
@@ -58,21 +56,21 @@ overflow_add-i c =
     omega (arith, turn_small _ _ _ g.some _ _ _ g.turn c.loop-done-test.true, c.requires.4)
 
 pub loop-done-smaller : goal.loop-done-smaller
-loop-done-smaller c = omega (arith, c.loop-done-test.true, (piece c.loop-done.invariant c.loop-done-test.true _ c.least-num.ensures).some)
+loop-done-smaller c = omega (arith, c.loop-done-test.true, (piece c.loop-done.invariant c.loop-done-test.true _ c.min-num.ensures).some)
 
 pub loop-done-preserved : goal.loop-done-preserved
 loop-done-preserved c =
     let k = c.requires in
     let g = c.loop-done.invariant in
     let l = c.loop-done-test.true in
-    let e = c.least-num.ensures in
+    let e = c.min-num.ensures in
     let p = piece g l _ e in
     record {
       some = g.some;
       upto = p.asked;
       turn = turn-next _ _ _ g.some _ _ _ g.turn l _ e;
-      steady = steady-trans _ g.steady (kept-left _ (keeps_piece _ _ k.2 _ _ _ _ _ _ p.some p.within_block (omega (arith, p.reach, k.4)) p.asked _) g.steady.frame c.write_block.ensures);
-      rest = rest-next _ _ _ _ _ g.some _ _ _ _ _ g.turn _ _ g.rest l _ e c.write_block.ensures (ap counted_out c.in-Held.is);
+      steady = steady-trans _ g.steady (kept-left _ (keeps_piece _ _ k.2 _ _ _ _ _ _ p.some p.within_block (omega (arith, p.reach, k.4)) p.asked _) g.steady.frame c.in_ok-all.ensures);
+      rest = rest-next _ _ _ _ _ g.some _ _ _ _ _ g.turn _ _ g.rest l _ e c.in_ok-all.ensures refl;
     }
 
 pub returns : goal.returns

@@ -1,19 +1,11 @@
 -- `write_blocks` meets its contract: after each turn the blocks before block i are written. Assumes nothing.
-use borrow.Author.Rules.{rules}
-use mathlib.Core.Path.{◌≡◌, ap}
 use mathlib.Core.List.{List}
-use native.Mathlib.Omega.{arith}
-use Prim.Native.Nat.{ℕ, ◌-◌, ◌≤◌, ◌<◌, min}
+use Prim.Native.Nat.{ℕ, ◌-◌, ◌≤◌, ◌<◌}
 use lib.ListN.{length}
 use Rattle.volume.specs.declared.Geometry.{Geometry}
-use Rattle.inode_read.proofs.ReachLaws.{block-some}
-use Rattle.inode_read.proofs.ReadLaws.{Turn, Piece, turn-start, turn-next, turn_small, turn-piece}
+use Rattle.inode_read.proofs.ReadLaws.{Turn}
 use Rattle.books.specs.Books.{Steady}
-use Rattle.books.proofs.SteadyLaws.{steady-refl, steady-trans}
-use Rattle.books.proofs.KeepLaws.{kept-left}
-use Rattle.inode_write.specs.Write.{counted_out}
-use Rattle.inode_write.proofs.WriteLaws.{Rest, rest-start, rest-next, rest-stop, rest_end}
-use Rattle.inode_write.proofs.WriteKeeps.{keeps_piece}
+use Rattle.inode_write.proofs.WriteLaws.{Rest}
 use Rattle.inode_write.proofs.write_blocks.Given as goal
 
 -- in the loop: `done` bytes are written, and the blocks from i on, in the image as it is, lead to what all of them lead to at first

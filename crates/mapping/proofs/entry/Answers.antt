@@ -13,8 +13,8 @@ overflow_mul-at c = let h = c.requires in omega (arith, entry-inside _ _ h.0 _ _
 pub overflow_add-at : goal.overflow_add-at
 overflow_add-at c = let h = c.requires in omega (arith, entry-inside _ _ h.0 _ _ h.1 h.2, h.0.laid.high, c.address_at.ensures)
 
-pub get_u64-requires : goal.get_u64-requires
-get_u64-requires c = let h = c.requires in omega (arith, entry-inside _ _ h.0 _ _ h.1 h.2, c.address_at.ensures)
+pub get-requires : goal.get-requires
+get-requires c = let h = c.requires in omega (arith, entry-inside _ _ h.0 _ _ h.1 h.2, c.address_at.ensures)
 
 pub returns : goal.returns
 unfolding entry_at

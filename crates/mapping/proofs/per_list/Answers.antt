@@ -1,5 +1,4 @@
 -- `per_list` meets its contract. Assumes nothing.
-use borrow.Author.Rules.{rules}
 use mathlib.Core.Path.{refl}
 use native.Mathlib.Omega.{arith}
 use Rattle.mapping.specs.Mapping.{per_list}

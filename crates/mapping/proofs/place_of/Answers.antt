@@ -1,5 +1,4 @@
 -- `place_of` meets its contract. Assumes nothing.
-use borrow.Author.Rules.{rules}
 use native.Mathlib.Omega.{arith}
 use Rattle.mapping.proofs.ZoneLaws.{place-direct, place-first, place-second, place-third, place-past}
 use Rattle.mapping.proofs.place_of.Goals as goal

@@ -1,7 +1,5 @@
 -- `resolve_block` meets its contract: what `place_of` answers can be resolved. Assumes nothing.
-use borrow.Author.Rules.{rules}
-use mathlib.Core.Path.{◌≡◌, sym, ap, subst, ◌∙◌}
-use native.Mathlib.Omega.{arith}
+use mathlib.Core.Path.{sym, ◌∙◌}
 use Rattle.inode.proofs.SizeLaws.{units}
 use Rattle.mapping.proofs.ZoneLaws.{under_good}
 use Rattle.mapping.proofs.MappingLaws.{mapped-under, mapped-past}

@@ -1,7 +1,4 @@
 -- `span_of` meets its contract. Assumes nothing.
-use borrow.Author.Rules.{rules}
-use mathlib.Core.Path.{◌≡◌, ap, ◌∙◌}
-use Prim.Native.Nat.{ℕ, ◌^◌}
 use Rattle.mapping.proofs.span_of.Goals as goal
 
 pub returns : goal.returns

@@ -1,19 +1,20 @@
 -- `mkdir` meets its contract. Assumes nothing.
 use borrow.Author.Rules.{rules}
-use mathlib.Core.Path.{sym, ◌∙◌}
 use borrow.Author.Tests.{not-true, not-false}
+use mathlib.Core.Path.{sym, ◌∙◌}
+use Rattle.refusal.proofs.ExitLaws.{passed}
 use Rattle.balloc.proofs.CallLaws.{taken-frame}
 use Rattle.mknod.proofs.MakeLaws.{mkdir-unsound, mkdir-read-only, mkdir-taken}
 use Rattle.mknod.proofs.mkdir.Goals as goal
 
 pub returns-then-not-vol : goal.returns-then-not-vol
-returns-then-not-vol c = mkdir-read-only _ _ _ _ _ _ _ _ _ (sym c.take_volume-t.ensures ∙ c.in-Sound.is) (not-true _ c.if-not-vol.true)
+returns-then-not-vol c = mkdir-read-only _ _ _ _ _ _ _ _ _ (sym c.in_ok-geo.ensures) (not-true _ c.if-not-vol.true)
 
 pub mkdir_in-requires : goal.mkdir_in-requires
-mkdir_in-requires c = taken-frame _ _ (sym c.take_volume-t.ensures ∙ c.in-Sound.is)
+mkdir_in-requires c = taken-frame _ _ (sym c.in_ok-geo.ensures)
 
-pub returns-else-not-vol : goal.returns-else-not-vol
-returns-else-not-vol c = c.mkdir_in.ensures ∙ mkdir-taken _ _ _ _ _ _ _ _ _ (sym c.take_volume-t.ensures ∙ c.in-Sound.is) (not-false _ c.if-not-vol.false) c.one_time.ensures
+pub returns : goal.returns
+returns c = c.mkdir_in.ensures ∙ mkdir-taken _ _ _ _ _ _ _ _ _ (sym c.in_ok-geo.ensures) (not-false _ c.if-not-vol.false) c.one_time.ensures
 
-pub returns-in-Unsound : goal.returns-in-Unsound
-returns-in-Unsound c = mkdir-unsound _ _ _ _ _ _ _ _ (sym c.take_volume-t.ensures ∙ c.in-Unsound.is)
+pub returns-in_err-geo : goal.returns-in_err-geo
+returns-in_err-geo c = rw (passed _ _ c.from_residual.ensures) (mkdir-unsound _ _ _ _ _ _ _ _ (sym c.in_err-geo.ensures))

@@ -1,8 +1,8 @@
 -- `judge_make` meets its contract. Assumes nothing.
 use borrow.Author.Rules.{rules}
-use borrow.Author.Tests.{not-true, not-false}
 use mathlib.Core.Path.{sym, ◌∙◌}
 use native.Mathlib.Omega.{arith}
+use Rattle.refusal.proofs.ExitLaws.{passed}
 use Rattle.inode_run.proofs.FindLaws.{found-got}
 use Rattle.inode_read.proofs.JudgeLaws.{found_no}
 use Rattle.dirnames.proofs.Theorems.{short-says}
@@ -20,15 +20,16 @@ pub judge_in-requires : goal.judge_in-requires
 judge_in-requires c =
     let fr = c.requires in
     let few = short-says _ (sym c.is_short.ensures ∙ c.if-not-is_short.false) in
-    (fr, (dir-named _ _ fr _ _ (found-got _ _ (sym c.in-At.is ∙ c.find_dir.ensures))).place.inside, omega (arith, few))
+    (fr, (dir-named _ _ fr _ _ (found-got _ _ c.in_ok-s.ensures)).place.inside, omega (arith, few))
 
-pub returns-in-At : goal.returns-in-At
-returns-in-At c =
+pub returns : goal.returns
+returns c =
     c.judge_in.ensures
     ∙ sym (make-in _ _ _ _ _ (sym c.is_taken.ensures ∙ c.if-not-is_taken.false) (sym c.is_short.ensures ∙ c.if-not-is_short.false)
-    c.requires _ (found-got _ _ (sym c.in-At.is ∙ c.find_dir.ensures)))
+    c.requires _ (found-got _ _ c.in_ok-s.ensures))
 
-pub returns-in-No : goal.returns-in-No
-returns-in-No c =
-    sym (make-no-dir _ _ _ _ _ (sym c.is_taken.ensures ∙ c.if-not-is_taken.false) (sym c.is_short.ensures ∙ c.if-not-is_short.false)
-    _ (found_no _ _ (sym c.in-No.is ∙ c.find_dir.ensures)))
+pub returns-in_err-s : goal.returns-in_err-s
+returns-in_err-s c =
+    rw (passed _ _ c.from_residual.ensures)
+    (sym (make-no-dir _ _ _ _ _ (sym c.is_taken.ensures ∙ c.if-not-is_taken.false) (sym c.is_short.ensures ∙ c.if-not-is_short.false)
+    _ (found_no _ _ c.in_err-s.ensures)))

@@ -1,6 +1,5 @@
 -- `judge_moving` meets its contract. Assumes nothing.
 use borrow.Author.Rules.{rules}
-use borrow.Author.Tests.{not-false, not-true}
 use mathlib.Core.Path.{sym, ◌∙◌}
 use Rattle.dirwalk.specs.Walk.{looked_out, seen_out}
 use Rattle.rename_judge.proofs.RenameLaws.{others-source, others-way, own-moved, target_ok, test-dirs, test-files, test-inodes, test-kinds, test-passed, two_both, two-is}

@@ -1,6 +1,5 @@
 -- `judge_own` meets its contract. Assumes nothing.
 use borrow.Author.Rules.{rules}
-use borrow.Author.Tests.{not-false, not-true}
 use mathlib.Core.Path.{sym, ◌∙◌}
 use Rattle.rename_judge.proofs.RenameLaws.{own-moved, test-dirs, test-files, test-inodes, test-kinds, test-passed, two-is}
 use Rattle.rename_judge.proofs.judge_own.Goals as goal

@@ -1,6 +1,5 @@
 -- `judge_rename` meets its contract. Assumes nothing.
 use borrow.Author.Rules.{rules}
-use borrow.Author.Tests.{not-false, not-true}
 use Rattle.rename_judge.proofs.RenameLaws.{two_both, two-is}
 use Rattle.rename_judge.proofs.VerdictLaws.{goes_on, number-low, short-length, stop-lengths, stop-names, stop-numbers}
 use Rattle.rename_judge.proofs.judge_rename.Goals as goal

@@ -1,17 +1,17 @@
 -- `empty_out` meets its contract. Assumes nothing.
 use borrow.Author.Rules.{rules}
-use mathlib.Core.Path.{ap, ◌∙◌}
-use Rattle.inode_setblock.specs.Set.{written_out}
+use mathlib.Core.Path.{refl, ◌∙◌}
+use Rattle.refusal.proofs.ExitLaws.{passed}
 use Rattle.books.proofs.KeepLaws.{kept-left}
 use Rattle.dirtake.proofs.TakeLaws.{keeps-take-name}
 use Rattle.rmdir.proofs.RmdirLaws.{parent-gone, parent-stop}
 use Rattle.rmdir.proofs.empty_out.Goals as goal
 
 pub take_own-requires : goal.take_own-requires
-take_own-requires c = (kept-left _ (keeps-take-name _ _ _) c.requires c.take_name.ensures).frame
+take_own-requires c = (kept-left _ (keeps-take-name _ _ _) c.requires c.in_ok-take_name.ensures).frame
 
-pub returns-in-Done : goal.returns-in-Done
-returns-in-Done c = c.take_own.ensures ∙ parent-gone _ _ _ c.take_name.ensures (ap written_out c.in-Done.is)
+pub returns : goal.returns
+returns c = c.take_own.ensures ∙ parent-gone _ _ _ c.in_ok-take_name.ensures refl
 
-pub returns-in-No : goal.returns-in-No
-returns-in-No c = parent-stop _ _ _ c.take_name.ensures (ap written_out c.in-No.is)
+pub returns-in_err-take_name : goal.returns-in_err-take_name
+returns-in_err-take_name c = rw (passed _ _ c.from_residual.ensures) (parent-stop _ _ _ c.in_err-take_name.ensures refl)

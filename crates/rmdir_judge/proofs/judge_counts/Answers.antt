@@ -1,16 +1,16 @@
 -- `judge_counts` meets its contract. Assumes nothing.
 use borrow.Author.Rules.{rules}
-use Rattle.rmdir_judge.proofs.StepLaws.{counts-is}
+use mathlib.Core.Path.{ap, ◌∙◌}
+use Rattle.refusal.proofs.ExitLaws.{passed}
+use Rattle.inode_grow.specs.Grow.{growth_out}
+use Rattle.rmdir_judge.proofs.StepLaws.{counts-first, counts-second, counts-third}
 use Rattle.rmdir_judge.proofs.judge_counts.Goals as goal
 
-pub can_fall-first-requires : goal.can_fall-first-requires
-can_fall-first-requires c = let p = c.requires in (p.0, p.1.up)
+pub returns-in_err-can_fall : goal.returns-in_err-can_fall
+returns-in_err-can_fall c = ap growth_out (passed _ _ c.from_residual.ensures) ∙ counts-first _ _ _ _ _ _ c.in_err-can_fall.ensures
 
-pub can_fall-second-requires : goal.can_fall-second-requires
-can_fall-second-requires c = let p = c.requires in (p.0, p.1.own)
-
-pub can_fall-third-requires : goal.can_fall-third-requires
-can_fall-third-requires c = let p = c.requires in (p.0, p.1.gone)
+pub returns-in_err-can_fall-2 : goal.returns-in_err-can_fall-2
+returns-in_err-can_fall-2 c = ap growth_out (passed _ _ c.from_residual-in_err-can_fall-2.ensures) ∙ counts-second _ _ _ _ _ c.in_ok-can_fall.ensures _ c.in_err-can_fall-2.ensures
 
 pub returns : goal.returns
-returns c = counts-is _ _ _ _ _ _ _ _ _ _ c.can_fall-first.ensures c.can_fall-second.ensures c.can_fall-third.ensures c.both.ensures c.both-2.ensures
+returns c = counts-third _ _ _ _ _ c.in_ok-can_fall.ensures c.in_ok-can_fall-2.ensures _ c.can_fall-3.ensures

@@ -1,7 +1,9 @@
 -- `judge_dirs` meets its contract. Assumes nothing.
 use borrow.Author.Rules.{rules}
 use mathlib.Core.Path.{sym, ap, ◌∙◌}
-use borrow.Author.Tests.{eqb-true, eqb-false, not-true, not-false}
+use Rattle.std.specs.Prelude.{Ok}
+use Rattle.refusal.proofs.ExitLaws.{passed}
+use Rattle.inode_grow.specs.Grow.{growth_out}
 use Rattle.dirwalk.specs.Walk.{seen_out}
 use Rattle.dirwalk.proofs.HereLaws.{find-here}
 use Rattle.rmdir_judge.proofs.StepLaws.{hit-number, own-numbers}
@@ -9,31 +11,65 @@ use Rattle.rmdir_judge.proofs.RmdirLaws.{dirs-no, dirs-other, dirs-hits, dirs-no
 use Rattle.rmdir_judge.proofs.judge_dirs.Goals as goal
 
 pub returns-then-not-own_ok : goal.returns-then-not-own_ok
-returns-then-not-own_ok c = dirs-no _ _ _ _ _ _ c.find_dir-link.result c.find_dir-up.result c.find_dir-own.result c.find_dir-link.ensures c.find_dir-up.ensures c.find_dir-own.ensures (sym c.own_ok.ensures ∙ c.if-not-own_ok.true)
+returns-then-not-own_ok c =
+    dirs-no _ _ _ _ _ _ c.find_dir-link.result c.find_dir-up.result c.find_dir-own.result c.find_dir-link.ensures c.find_dir-up.ensures c.find_dir-own.ensures
+    (sym c.own_ok.ensures ∙ c.if-not-own_ok.true)
 
-pub returns-then-not-v-i : goal.returns-then-not-v-i
-returns-then-not-v-i c = dirs-other _ _ _ _ _ _ c.find_dir-link.result c.find_dir-up.result c.find_dir-own.result c.find_dir-link.ensures c.find_dir-up.ensures c.find_dir-own.ensures (sym c.own_ok.ensures ∙ c.if-not-own_ok.false) _ c.in-At.is ((c.if-not-v-i.true))
+pub returns-in_err-v : goal.returns-in_err-v
+returns-in_err-v c =
+    ap growth_out (passed _ _ c.from_residual.ensures)
+    ∙ dirs-bad-link _ _ _ _ _ _ c.find_dir-link.result c.find_dir-up.result c.find_dir-own.result c.find_dir-link.ensures c.find_dir-up.ensures c.find_dir-own.ensures
+    (sym c.own_ok.ensures ∙ c.if-not-own_ok.false) c.in_err-v.was
+
+pub returns-in_default : goal.returns-in_default
+returns-in_default c =
+    dirs-no-link _ _ _ _ _ _ c.find_dir-link.result c.find_dir-up.result c.find_dir-own.result c.find_dir-link.ensures c.find_dir-up.ensures c.find_dir-own.ensures
+    (sym c.own_ok.ensures ∙ c.if-not-own_ok.false) (c.in_ok-v.was ∙ ap Ok c.in_default.is)
+
+pub returns-then-v-i : goal.returns-then-v-i
+returns-then-v-i c =
+    dirs-other _ _ _ _ _ _ c.find_dir-link.result c.find_dir-up.result c.find_dir-own.result c.find_dir-link.ensures c.find_dir-up.ensures c.find_dir-own.ensures
+    (sym c.own_ok.ensures ∙ c.if-not-own_ok.false) _ (c.in_ok-v.was ∙ ap Ok c.in-Some.is) c.if-v-i.true
+
+pub returns-in_err-q : goal.returns-in_err-q
+returns-in_err-q c =
+    ap growth_out (passed _ _ c.from_residual-in_err-q.ensures)
+    ∙ dirs-bad-dots _ _ _ _ _ _ c.find_dir-link.result c.find_dir-up.result c.find_dir-own.result c.find_dir-link.ensures c.find_dir-up.ensures c.find_dir-own.ensures
+    (sym c.own_ok.ensures ∙ c.if-not-own_ok.false) _ (c.in_ok-v.was ∙ ap Ok c.in-Some.is) c.if-v-i.false c.in_err-q.was
+
+pub returns-in_default-2 : goal.returns-in_default-2
+returns-in_default-2 c =
+    dirs-no-dots _ _ _ _ _ _ c.find_dir-link.result c.find_dir-up.result c.find_dir-own.result c.find_dir-link.ensures c.find_dir-up.ensures c.find_dir-own.ensures
+    (sym c.own_ok.ensures ∙ c.if-not-own_ok.false) _ (c.in_ok-v.was ∙ ap Ok c.in-Some.is) c.if-v-i.false (c.in_ok-q.was ∙ ap Ok c.in_default-2.is)
+
+pub returns-in_err-c : goal.returns-in_err-c
+returns-in_err-c c =
+    ap growth_out (passed _ _ c.from_residual-in_err-c.ensures)
+    ∙ dirs-bad-dot _ _ _ _ _ _ c.find_dir-link.result c.find_dir-up.result c.find_dir-own.result c.find_dir-link.ensures c.find_dir-up.ensures c.find_dir-own.ensures
+    (sym c.own_ok.ensures ∙ c.if-not-own_ok.false) _ (c.in_ok-v.was ∙ ap Ok c.in-Some.is) c.if-v-i.false _ (c.in_ok-q.was ∙ ap Ok c.in-Some-2.is) c.in_err-c.was
+
+pub returns-in_default-3 : goal.returns-in_default-3
+returns-in_default-3 c =
+    dirs-no-dot _ _ _ _ _ _ c.find_dir-link.result c.find_dir-up.result c.find_dir-own.result c.find_dir-link.ensures c.find_dir-up.ensures c.find_dir-own.ensures
+    (sym c.own_ok.ensures ∙ c.if-not-own_ok.false) _ (c.in_ok-v.was ∙ ap Ok c.in-Some.is) c.if-v-i.false _ (c.in_ok-q.was ∙ ap Ok c.in-Some-2.is) (c.in_ok-c.was ∙ ap Ok c.in_default-3.is)
 
 pub judge_hits-requires : goal.judge_hits-requires
-judge_hits-requires c = let p = c.requires in let k = own-numbers _ _ _ c.find_dir-up.result c.find_dir-own.result (sym c.own_ok.ensures ∙ c.if-not-own_ok.false) in (p.0, p.2, (find-here _ _ _ _ _ _ (sym c.find_dir-own.ensures ∙ ap seen_out c.in-At-own.is)).inside, record { gone = p.3; up = hit-number _ _ c.find_dir-up.result c.in-At-up.is k.0; own = hit-number _ _ c.find_dir-own.result c.in-At-own.is k.1 })
+judge_hits-requires c =
+    let p = c.requires in
+    let k = own-numbers _ _ _ c.find_dir-up.result c.find_dir-own.result (sym c.own_ok.ensures ∙ c.if-not-own_ok.false) in
+    let u = c.in_ok-q.was ∙ ap Ok c.in-Some-2.is in
+    let o = c.in_ok-c.was ∙ ap Ok c.in-Some-3.is in (
+      p.0,
+      p.2,
+      (find-here _ _ _ _ _ _ (sym c.find_dir-own.ensures ∙ ap seen_out o)).inside,
+      record {
+        gone = p.3;
+        up = hit-number _ _ c.find_dir-up.result u k.0;
+        own = hit-number _ _ c.find_dir-own.result o k.1;
+      },
+    )
 
-pub returns-in-At-own : goal.returns-in-At-own
-returns-in-At-own c = dirs-hits _ _ _ _ _ _ c.find_dir-link.result c.find_dir-up.result c.find_dir-own.result c.find_dir-link.ensures c.find_dir-up.ensures c.find_dir-own.ensures (sym c.own_ok.ensures ∙ c.if-not-own_ok.false) _ c.in-At.is ((c.if-not-v-i.false)) _ c.in-At-up.is _ c.in-At-own.is _ c.judge_hits.ensures
-
-pub returns-in-Absent-own : goal.returns-in-Absent-own
-returns-in-Absent-own c = dirs-no-dot _ _ _ _ _ _ c.find_dir-link.result c.find_dir-up.result c.find_dir-own.result c.find_dir-link.ensures c.find_dir-up.ensures c.find_dir-own.ensures (sym c.own_ok.ensures ∙ c.if-not-own_ok.false) _ c.in-At.is ((c.if-not-v-i.false)) _ c.in-At-up.is c.in-Absent-own.is
-
-pub returns-in-Bad-own : goal.returns-in-Bad-own
-returns-in-Bad-own c = dirs-bad-dot _ _ _ _ _ _ c.find_dir-link.result c.find_dir-up.result c.find_dir-own.result c.find_dir-link.ensures c.find_dir-up.ensures c.find_dir-own.ensures (sym c.own_ok.ensures ∙ c.if-not-own_ok.false) _ c.in-At.is ((c.if-not-v-i.false)) _ c.in-At-up.is c.in-Bad-own.is
-
-pub returns-in-Absent-up : goal.returns-in-Absent-up
-returns-in-Absent-up c = dirs-no-dots _ _ _ _ _ _ c.find_dir-link.result c.find_dir-up.result c.find_dir-own.result c.find_dir-link.ensures c.find_dir-up.ensures c.find_dir-own.ensures (sym c.own_ok.ensures ∙ c.if-not-own_ok.false) _ c.in-At.is ((c.if-not-v-i.false)) c.in-Absent-up.is
-
-pub returns-in-Bad-up : goal.returns-in-Bad-up
-returns-in-Bad-up c = dirs-bad-dots _ _ _ _ _ _ c.find_dir-link.result c.find_dir-up.result c.find_dir-own.result c.find_dir-link.ensures c.find_dir-up.ensures c.find_dir-own.ensures (sym c.own_ok.ensures ∙ c.if-not-own_ok.false) _ c.in-At.is ((c.if-not-v-i.false)) c.in-Bad-up.is
-
-pub returns-in-Absent : goal.returns-in-Absent
-returns-in-Absent c = dirs-no-link _ _ _ _ _ _ c.find_dir-link.result c.find_dir-up.result c.find_dir-own.result c.find_dir-link.ensures c.find_dir-up.ensures c.find_dir-own.ensures (sym c.own_ok.ensures ∙ c.if-not-own_ok.false) c.in-Absent.is
-
-pub returns-in-Bad : goal.returns-in-Bad
-returns-in-Bad c = dirs-bad-link _ _ _ _ _ _ c.find_dir-link.result c.find_dir-up.result c.find_dir-own.result c.find_dir-link.ensures c.find_dir-up.ensures c.find_dir-own.ensures (sym c.own_ok.ensures ∙ c.if-not-own_ok.false) c.in-Bad.is
+pub returns : goal.returns
+returns c =
+    dirs-hits _ _ _ _ _ _ c.find_dir-link.result c.find_dir-up.result c.find_dir-own.result c.find_dir-link.ensures c.find_dir-up.ensures c.find_dir-own.ensures
+    (sym c.own_ok.ensures ∙ c.if-not-own_ok.false) _ (c.in_ok-v.was ∙ ap Ok c.in-Some.is) c.if-v-i.false _ (c.in_ok-q.was ∙ ap Ok c.in-Some-2.is) _ (c.in_ok-c.was ∙ ap Ok c.in-Some-3.is) _ c.judge_hits.ensures

@@ -1,5 +1,4 @@
 -- `body_ok` meets its contract. Assumes nothing.
-use borrow.Author.Rules.{rules}
 use native.Mathlib.Nat.{div-le_self}
 use native.Mathlib.Omega.{arith}
 use lib.ListN.{length}

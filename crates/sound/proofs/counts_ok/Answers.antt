@@ -1,5 +1,4 @@
 -- `counts_ok` meets its contract. Assumes nothing.
-use borrow.Author.Rules.{rules}
 use Rattle.sound.specs.Clauses.{counts_ok}
 use Rattle.sound.proofs.counts_ok.Goals as goal
 

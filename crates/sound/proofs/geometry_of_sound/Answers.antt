@@ -1,5 +1,4 @@
 -- `geometry_of_sound` meets its contract. Assumes nothing.
-use borrow.Author.Rules.{rules}
 use Rattle.sound.proofs.Laws.{tested}
 use Rattle.sound.proofs.geometry_of_sound.Goals as goal
 

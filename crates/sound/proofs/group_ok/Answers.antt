@@ -1,6 +1,5 @@
 -- `group_ok` meets its contract. Assumes nothing.
-use borrow.Author.Rules.{rules}
-use mathlib.Core.Path.{◌≡◌, sym, ◌∙◌}
+use mathlib.Core.Path.{sym}
 use native.Mathlib.Omega.{arith}
 use Rattle.sound.proofs.Laws.{group-inside, placed}
 use Rattle.bits.proofs.UptoLaws.{not-true as never_true}

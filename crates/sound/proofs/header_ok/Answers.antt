@@ -1,5 +1,4 @@
 -- `header_ok` meets its contract. Assumes nothing.
-use borrow.Author.Rules.{rules}
 use Rattle.sound.specs.Clauses.{header_ok}
 use Rattle.sound.proofs.header_ok.Goals as goal
 

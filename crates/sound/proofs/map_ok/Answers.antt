@@ -1,5 +1,4 @@
 -- `map_ok` meets its contract. Assumes nothing.
-use borrow.Author.Rules.{rules}
 use native.Mathlib.Omega.{arith}
 use Rattle.sound.proofs.Laws.{reserved-within}
 use Rattle.sound.specs.Clauses.{map_ok}

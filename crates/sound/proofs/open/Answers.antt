@@ -1,6 +1,4 @@
 -- `open` meets its contract. Assumes nothing.
-use borrow.Author.Rules.{rules}
-use borrow.Author.Tests.{not-true, not-false}
 use mathlib.Core.Path.{sym, ◌∙◌}
 use Rattle.sound.proofs.Laws.{opened-not, opened-yes}
 use Rattle.sound.proofs.open.Goals as goal

@@ -1,5 +1,4 @@
 -- `places_ok` meets its contract. Assumes nothing.
-use borrow.Author.Rules.{rules}
 use Rattle.sound.specs.Clauses.{places_ok}
 use Rattle.sound.proofs.places_ok.Goals as goal
 

@@ -1,8 +1,6 @@
 -- `record_ok` meets its contract. Assumes nothing.
-use borrow.Author.Rules.{rules}
-use borrow.Author.Tests.{not-true, not-false}
 use mathlib.Core.Path.{◌≡◌, sym, ◌∙◌}
-use mathlib.Core.Bool.{true, false}
+use mathlib.Core.Bool.{true}
 use Prim.Native.Nat.{◌/◌}
 use lib.ListN.{length}
 use Rattle.sound.specs.Clauses.{header_ok}

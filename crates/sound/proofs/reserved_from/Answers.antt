@@ -1,5 +1,4 @@
 -- `reserved_from` meets its contract. Assumes nothing.
-use borrow.Author.Rules.{rules}
 use Rattle.sound.specs.Clauses.{reserved_from}
 use Rattle.sound.proofs.Laws.{reserved-later}
 use Rattle.sound.proofs.reserved_from.Goals as goal

@@ -1,15 +1,9 @@
 -- `sound` meets its contract. Assumes nothing.
-use borrow.Author.Rules.{rules}
-use borrow.Author.Tests.{not-true, not-false}
-use mathlib.Core.Path.{◌≡◌, sym, ap, subst, ◌∙◌}
-use mathlib.Core.Bool.{true, false}
+use mathlib.Core.Path.{sym, ap, ◌∙◌}
 use native.Mathlib.Omega.{arith}
 use lib.ListN.{length}
-use Prim.Native.Nat.{◌/◌}
-use Rattle.sound.specs.Clauses.{sizes_ok, places_ok, super_ok, groups_ok, zero_ok, soundb}
-use Rattle.volume.specs.Volume.{geometry_of, group_of, byte_at}
-use Rattle.sound.specs.Test.{Laid, Placed, Headed}
-use Rattle.volume.specs.declared.Geometry.{Geometry}
+use Rattle.sound.specs.Clauses.{sizes_ok, places_ok, groups_ok, zero_ok}
+use Rattle.sound.specs.Test.{Laid}
 use Rattle.sound.proofs.Laws.{tested, sound-last, laid, unit-sized, groups-at, group-inside, group-headed, placed}
 use Rattle.bits.proofs.UptoLaws.{not-true as never_true}
 use Rattle.sound.proofs.Laws.{clash}

@@ -1,5 +1,4 @@
 -- `super_ok` meets its contract. Assumes nothing.
-use borrow.Author.Rules.{rules}
 use Rattle.sound.specs.Clauses.{super_ok}
 use Rattle.sound.proofs.super_ok.Goals as goal
 

@@ -1,7 +1,5 @@
 -- `take_volume` meets its contract. Assumes nothing.
-use borrow.Author.Rules.{rules}
 use mathlib.Core.Path.{sym, ◌∙◌}
-use borrow.Author.Tests.{not-true, not-false}
 use Rattle.sound.proofs.Laws.{taken-not, taken-yes}
 use Rattle.sound.proofs.take_volume.Goals as goal
 

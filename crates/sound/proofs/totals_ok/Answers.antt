@@ -1,5 +1,4 @@
 -- `totals_ok` meets its contract. Assumes nothing.
-use borrow.Author.Rules.{rules}
 use Rattle.sound.specs.Clauses.{totals_ok}
 use Rattle.sound.proofs.totals_ok.Goals as goal
 

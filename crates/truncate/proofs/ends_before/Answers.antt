@@ -1,6 +1,4 @@
 -- `ends_before` meets its contract. Assumes nothing.
-use borrow.Author.Rules.{rules}
-use mathlib.Core.Path.{◌≡◌, sym, ap, ◌∙◌}
 use native.Mathlib.Omega.{arith}
 use Rattle.inode.proofs.SizeLaws.{units}
 use Rattle.truncate.proofs.CallLaws.{third_is}

@@ -1,7 +1,7 @@
 -- `inode_truncate` meets its contract. Assumes nothing.
-use borrow.Author.Rules.{rules}
-use mathlib.Core.Path.{◌≡◌, sym, ap, ◌∙◌}
+use mathlib.Core.Path.{sym, ◌∙◌}
 use borrow.Author.Tests.{not-true, not-false}
+use Rattle.refusal.proofs.ExitLaws.{passed}
 use Rattle.balloc.proofs.CallLaws.{taken-frame}
 use Rattle.inode_read.proofs.JudgeLaws.{found_no}
 use Rattle.inode_run.proofs.FindLaws.{found-got, find-named}
@@ -9,24 +9,24 @@ use Rattle.truncate.proofs.CallLaws.{call-unsound, call-read-only, call-no, call
 use Rattle.truncate.proofs.inode_truncate.Goals as goal
 
 pub returns-then-not-vol : goal.returns-then-not-vol
-returns-then-not-vol c = call-read-only _ _ _ _ _ (sym c.take_volume-t.ensures ∙ c.in-Sound.is) (not-true _ c.if-not-vol.true)
+returns-then-not-vol c = call-read-only _ _ _ _ _ (sym c.in_ok-geo.ensures) (not-true _ c.if-not-vol.true)
 
 pub find_inode-requires : goal.find_inode-requires
-find_inode-requires c = taken-frame _ _ (sym c.take_volume-t.ensures ∙ c.in-Sound.is)
+find_inode-requires c = taken-frame _ _ (sym c.in_ok-geo.ensures)
 
 pub truncate_found-requires : goal.truncate_found-requires
 truncate_found-requires c =
-    let fr = taken-frame _ _ (sym c.take_volume-t.ensures ∙ c.in-Sound.is) in
-    (fr, (find-named _ _ fr _ _ (found-got _ _ (sym c.in-At.is ∙ c.find_inode.ensures))).place.inside)
+    let fr = taken-frame _ _ (sym c.in_ok-geo.ensures) in
+    (fr, (find-named _ _ fr _ _ (found-got _ _ c.in_ok-spot.ensures)).place.inside)
 
-pub returns-in-At : goal.returns-in-At
-returns-in-At c =
+pub returns : goal.returns
+returns c =
     c.truncate_found.ensures
-    ∙ call-found _ _ _ _ _ (sym c.take_volume-t.ensures ∙ c.in-Sound.is) (not-false _ c.if-not-vol.false) _ (found-got _ _ (sym c.in-At.is ∙ c.find_inode.ensures))
+    ∙ call-found _ _ _ _ _ (sym c.in_ok-geo.ensures) (not-false _ c.if-not-vol.false) _ (found-got _ _ c.in_ok-spot.ensures)
 
-pub returns-in-No : goal.returns-in-No
-returns-in-No c =
-    call-no _ _ _ _ _ (sym c.take_volume-t.ensures ∙ c.in-Sound.is) (not-false _ c.if-not-vol.false) (found_no _ _ (sym c.in-No.is ∙ c.find_inode.ensures))
+pub returns-in_err-spot : goal.returns-in_err-spot
+returns-in_err-spot c =
+    rw (passed _ _ c.from_residual-in_err-spot.ensures) (call-no _ _ _ _ _ (sym c.in_ok-geo.ensures) (not-false _ c.if-not-vol.false) (found_no _ _ c.in_err-spot.ensures))
 
-pub returns-in-Unsound : goal.returns-in-Unsound
-returns-in-Unsound c = call-unsound _ _ _ _ (sym c.take_volume-t.ensures ∙ c.in-Unsound.is)
+pub returns-in_err-geo : goal.returns-in_err-geo
+returns-in_err-geo c = rw (passed _ _ c.from_residual.ensures) (call-unsound _ _ _ _ (sym c.in_err-geo.ensures))

@@ -1,7 +1,5 @@
 -- `judge` meets its contract. Assumes nothing.
-use borrow.Author.Rules.{rules}
-use mathlib.Core.Path.{◌≡◌, sym, ap, ◌∙◌}
-use native.Mathlib.Omega.{arith}
+use mathlib.Core.Path.{sym, ◌∙◌}
 use Rattle.inode.proofs.SizeLaws.{units}
 use Rattle.truncate.proofs.CallLaws.{judge-text, judge-far, judge-shrinks, judge-triple, judge-grows}
 use Rattle.truncate.proofs.judge.Goals as goal

@@ -4,4 +4,4 @@ use Rattle.volume.proofs.group_magic.Goals as goal
 
 pub returns : goal.returns
 unfolding group_magic_at
-returns c = c.get_u32.ensures
+returns c = c.get.ensures

@@ -4,4 +4,4 @@ use Rattle.volume.proofs.magic.Goals as goal
 
 pub returns : goal.returns
 unfolding magic_at
-returns c = c.get_u32.ensures
+returns c = c.get.ensures

@@ -4,4 +4,4 @@ use Rattle.volume.proofs.put_count.Goals as goal
 
 pub returns : goal.returns
 unfolding put_count
-returns c = rw c.count_place.ensures.0 at c.put_u32.ensures
+returns c = rw c.count_place.ensures.0 at c.put.ensures

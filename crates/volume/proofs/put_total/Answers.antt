@@ -4,4 +4,4 @@ use Rattle.volume.proofs.put_total.Goals as goal
 
 pub returns : goal.returns
 unfolding put_total
-returns c = rw c.total_place.ensures.0 at c.put_u64.ensures
+returns c = rw c.total_place.ensures.0 at c.put.ensures

@@ -4,4 +4,4 @@ use Rattle.volume.proofs.read_count.Goals as goal
 
 pub returns : goal.returns
 unfolding count_at
-returns c = rw (c.get_u32.ensures, c.count_place.ensures.0)
+returns c = rw (c.get.ensures, c.count_place.ensures.0)

@@ -6,14 +6,14 @@ pub returns : goal.returns
 unfolding geometry_of
 returns c =
     rw (
-      c.get_u32.ensures,
-      c.get_u32-2.ensures,
-      c.get_u32-3.ensures,
-      c.get_u32-4.ensures,
-      c.get_u32-5.ensures,
-      c.get_u32-6.ensures,
-      c.get_u32-7.ensures,
-      c.get_u32-8.ensures,
-      c.get_u32-9.ensures,
-      c.get_u32-10.ensures,
+      c.get.ensures,
+      c.get-2.ensures,
+      c.get-3.ensures,
+      c.get-4.ensures,
+      c.get-5.ensures,
+      c.get-6.ensures,
+      c.get-7.ensures,
+      c.get-8.ensures,
+      c.get-9.ensures,
+      c.get-10.ensures,
     )

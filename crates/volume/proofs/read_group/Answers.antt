@@ -4,4 +4,4 @@ use Rattle.volume.proofs.read_group.Goals as goal
 
 pub returns : goal.returns
 unfolding group_of
-returns c = rw (c.get_u32.ensures, c.get_u32-2.ensures, c.get_u32-3.ensures)
+returns c = rw (c.get.ensures, c.get-2.ensures, c.get-3.ensures)

@@ -4,4 +4,4 @@ use Rattle.volume.proofs.read_total.Goals as goal
 
 pub returns : goal.returns
 unfolding total_at
-returns c = rw (c.get_u64.ensures, c.total_place.ensures.0)
+returns c = rw (c.get.ensures, c.total_place.ensures.0)

@@ -1,21 +1,29 @@
 -- `hit_at` meets its contract. Assumes nothing.
-use borrow.Author.Rules.{rules}
-use mathlib.Core.Path.{sym, ◌∙◌}
+use mathlib.Core.Path.{◌≡◌, sym, ap, ◌∙◌}
+use Prim.Native.Nat.{ℕ}
+use Rattle.std.specs.Prelude.{Option, Ok, Err, ok_or}
+use Rattle.refusal.specs.declared.Refusal.TheVariants.{NoAttribute}
+use Rattle.attrrec.specs.declared.Entry.{Entry}
+use Rattle.refusal.proofs.ExitLaws.{passed}
 use Rattle.xattr.proofs.AreaLaws.{area-inside}
 use Rattle.xattr.proofs.CallLaws.{hit-lies, hit-found}
 use Rattle.xattr.proofs.hit_at.Goals as goal
 
 pub find_in-requires : goal.find_in-requires
-find_in-requires c = (area-inside _ _ _ c.requires.0 _ (sym c.area_of.ensures ∙ c.in-In.is)).0
+find_in-requires c = (area-inside _ _ _ c.requires.0 _ (sym c.in_ok-a.ensures)).0
 
-pub returns-in-At : goal.returns-in-At
-returns-in-At c = hit-found _ _ _ _ _ (sym c.in-In.is ∙ c.area_of.ensures) _ (sym c.in-At.is ∙ c.find_in.ensures)
+pub returns : goal.returns
+returns c = hit-found _ _ _ _ _ c.in_ok-a.ensures _ (ap Ok (sym c.in_ok-b.ensures.ok_part) ∙ c.in_ok-found.ensures)
 
-pub returns-in-Absent : goal.returns-in-Absent
-returns-in-Absent c = hit-found _ _ _ _ _ (sym c.in-In.is ∙ c.area_of.ensures) _ (sym c.in-Absent.is ∙ c.find_in.ensures)
+pub returns-in_err-b : goal.returns-in_err-b
+returns-in_err-b c =
+    let none = c.in_err-b.ensures.ok_part in
+    let w = c.in_err-b.ensures.value ∙ ap (λ (k : Option (ℕ × Entry)). ok_or k NoAttribute) none in
+    let e : c.in_err-b.field-0.0 ≡ NoAttribute = cc in
+    passed _ _ c.from_residual-in_err-b.ensures ∙ ap Err e ∙ hit-found _ _ _ _ _ c.in_ok-a.ensures _ (ap Ok (sym none) ∙ c.in_ok-found.ensures)
 
-pub returns-in-Bad-find_in : goal.returns-in-Bad-find_in
-returns-in-Bad-find_in c = hit-found _ _ _ _ _ (sym c.in-In.is ∙ c.area_of.ensures) _ (sym c.in-Bad-find_in.is ∙ c.find_in.ensures)
+pub returns-in_err-found : goal.returns-in_err-found
+returns-in_err-found c = passed _ _ c.from_residual-in_err-found.ensures ∙ hit-found _ _ _ _ _ c.in_ok-a.ensures _ c.in_err-found.ensures
 
-pub returns-in-Bad : goal.returns-in-Bad
-returns-in-Bad c = hit-lies _ _ _ _ _ (sym c.in-Bad.is ∙ c.area_of.ensures)
+pub returns-in_err-a : goal.returns-in_err-a
+returns-in_err-a c = passed _ _ c.from_residual.ensures ∙ hit-lies _ _ _ _ _ c.in_err-a.ensures

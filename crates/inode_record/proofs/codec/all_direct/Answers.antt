@@ -1,5 +1,4 @@
 -- `codec::all_direct` meets its contract. Assumes nothing.
-use borrow.Author.Rules.{rules}
 use mathlib.Core.List.{[], ◌∷◌}
 use native.Mathlib.Omega.{arith}
 use Rattle.inode_record.specs.Record.{listed}

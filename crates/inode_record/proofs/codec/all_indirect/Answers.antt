@@ -1,5 +1,4 @@
 -- `codec::all_indirect` meets its contract. Assumes nothing.
-use borrow.Author.Rules.{rules}
 use Rattle.inode_record.specs.Record.{listed}
 use Rattle.inode_record.proofs.codec.all_indirect.Goals as goal
 

@@ -1,5 +1,4 @@
 -- `codec::write_addresses` meets its contract. Assumes nothing.
-use borrow.Author.Rules.{rules}
 use Rattle.inode_record.proofs.SlotLaws.{slots-then}
 use Rattle.inode_record.proofs.codec.write_addresses.Goals as goal
 

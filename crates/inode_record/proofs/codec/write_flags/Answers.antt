@@ -1,11 +1,10 @@
 -- `codec::write_flags` meets its contract. Assumes nothing.
-use borrow.Author.Rules.{rules}
 use Rattle.inode_record.proofs.SlotLaws.{slot-then, slots_end}
 use Rattle.inode_record.proofs.codec.write_flags.Goals as goal
 
 pub returns : goal.returns
 returns c =
-    slot-then _ _ _ _ _ c.put_u32.ensures
-    (slot-then _ _ _ _ _ c.put_u32-2.ensures
-    (slot-then _ _ _ _ _ c.put_u32-3.ensures
-    (slot-then _ _ _ _ _ c.put_u32-4.ensures (slots_end _ _ _))))
+    slot-then _ _ _ _ _ c.put.ensures
+    (slot-then _ _ _ _ _ c.put-2.ensures
+    (slot-then _ _ _ _ _ c.put-3.ensures
+    (slot-then _ _ _ _ _ c.put-4.ensures (slots_end _ _ _))))

@@ -1,9 +1,8 @@
 -- `codec::write_size` meets its contract. Assumes nothing.
-use borrow.Author.Rules.{rules}
 use Rattle.inode_record.proofs.SlotLaws.{slot-then, slots_end}
 use Rattle.inode_record.proofs.codec.write_size.Goals as goal
 
 pub returns : goal.returns
 returns c =
-    slot-then _ _ _ _ _ c.put_u64.ensures
-    (slot-then _ _ _ _ _ c.put_u64-2.ensures (slots_end _ _ _))
+    slot-then _ _ _ _ _ c.put.ensures
+    (slot-then _ _ _ _ _ c.put-2.ensures (slots_end _ _ _))

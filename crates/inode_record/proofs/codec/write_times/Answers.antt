@@ -1,5 +1,4 @@
 -- `codec::write_times` meets its contract. Assumes nothing.
-use borrow.Author.Rules.{rules}
 use Rattle.inode_record.proofs.SlotLaws.{slots-then}
 use Rattle.inode_record.proofs.codec.write_times.Goals as goal
 

@@ -1,16 +1,7 @@
 -- `is_file` meets its contract. Assumes nothing.
 use borrow.Author.Rules.{rules}
-use Rattle.rename_judge.proofs.RenameLaws.{file-is, looked-number}
+use Rattle.rename_judge.proofs.RenameLaws.{looked-number}
 use Rattle.rename_judge.proofs.found.is_file.Goals as goal
 
 pub spot_at-s-requires : goal.spot_at-s-requires
-spot_at-s-requires c = (c.requires.0, looked-number _ _ _ _ c.in-At.is c.requires.1)
-
-pub returns-in-At : goal.returns-in-At
-returns-in-At c = file-is _ _ _ _ c.in-At.is _ c.spot_at-s.ensures.0 _ c.is_dir.ensures
-
-pub returns-in-Absent : goal.returns-in-Absent
-returns-in-Absent c = rw c.in-Absent.is
-
-pub returns-in-Bad : goal.returns-in-Bad
-returns-in-Bad c = rw c.in-Bad.is
+spot_at-s-requires c = (c.requires.0, looked-number _ _ _ c.in-Ok-Some.i (search rules) c.requires.1)

@@ -1,11 +1,12 @@
 -- `link_ends` meets its contract. Assumes nothing.
 use borrow.Author.Rules.{rules}
+use Rattle.refusal.proofs.ExitLaws.{passed}
 use Rattle.dirwalk.specs.Walk.{space_out}
 use Rattle.rename_judge.proofs.RenameLaws.{both_is, both_no, end-at}
 use Rattle.rename_judge.proofs.room.link_ends.Goals as goal
 
-pub returns-in-Free : goal.returns-in-Free
-returns-in-Free c = both_is _ _ _ _ c.drop_ends.ensures c.in-Free.is (end-at c.args.geo (space_out c.args.room) _ _ _ c.size_then.ensures c.link_end.ensures)
+pub returns-in_err-drop_ends : goal.returns-in_err-drop_ends
+returns-in_err-drop_ends c = both_no _ _ _ _ (passed _ _ c.from_residual.ensures) c.in_err-drop_ends.ensures
 
-pub returns-in-No : goal.returns-in-No
-returns-in-No c = both_no _ _ _ _ c.drop_ends.ensures c.in-No.is
+pub returns : goal.returns
+returns c = both_is _ _ _ c.in_ok-drop_ends.ensures (end-at c.args.geo (space_out c.args.room) _ _ _ c.size_then.ensures c.link_end.ensures)

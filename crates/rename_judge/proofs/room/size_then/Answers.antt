@@ -4,7 +4,4 @@ use Rattle.rename_judge.proofs.RenameLaws.{holds-block}
 use Rattle.rename_judge.proofs.room.size_then.Goals as goal
 
 pub overflow_sub-result : goal.overflow_sub-result
-overflow_sub-result c = holds-block _ _ _ c.in-At.is c.requires
-
-pub returns-then-h : goal.returns-then-h
-returns-then-h c = rw (c.in-At.is, c.if-h.true)
+overflow_sub-result c = holds-block _ _ c.in-Ok-Some.h (search rules) c.requires

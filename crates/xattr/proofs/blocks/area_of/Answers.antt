@@ -1,5 +1,4 @@
 -- `blocks::area_of` meets its contract. Assumes nothing.
-use borrow.Author.Rules.{rules}
 use Rattle.xattr.proofs.AreaLaws.{area-is}
 use Rattle.xattr.proofs.blocks.area_of.Goals as goal
 

@@ -1,5 +1,4 @@
 -- `blocks::gather` meets its contract: the bytes lie in one block, or in both. Assumes nothing.
-use borrow.Author.Rules.{rules}
 use Rattle.xattr.proofs.AreaLaws.{copied-first, copied-second, copied-both}
 use Rattle.xattr.proofs.blocks.gather.Goals as goal
 

@@ -1,15 +1,10 @@
 -- `list::measure` meets its contract: what was passed is counted. Assumes nothing.
-use borrow.Author.Rules.{rules}
-use mathlib.Core.Path.{◌≡◌, sym, ◌∙◌}
+use mathlib.Core.Path.{◌≡◌}
 use Prim.Native.Nat.{◌-◌, ◌*◌, ◌≤◌}
-use native.Mathlib.Omega.{arith}
 use Rattle.attrrec.specs.Search.{list_from, list_in}
-use Rattle.attrrec.proofs.RecordLaws.{held, gap-low}
-use Rattle.attrrec.proofs.WalkLaws.{sized}
 use Rattle.xattr.specs.Area.{gathered}
 use Rattle.xattr.specs.Calls.{measured}
-use Rattle.xattr.proofs.AreaLaws.{length-gathered}
-use Rattle.xattr.proofs.ListLaws.{plus, measure-start, measure-step, measure-end, measure-bad}
+use Rattle.xattr.proofs.ListLaws.{plus}
 use Rattle.xattr.proofs.list.measure.Given as goal
 
 abbrev pub invariant-loop-e : goal.invariant-loop-e

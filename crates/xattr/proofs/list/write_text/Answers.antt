@@ -2,7 +2,6 @@
 use borrow.Author.Rules.{rules}
 use mathlib.Core.Path.{sym, ◌∙◌}
 use native.Mathlib.Omega.{arith}
-use borrow.Author.Tests.{not-true, not-false}
 use Rattle.field.specs.Field.{part}
 use Rattle.xattr.specs.Area.{gathered}
 use Rattle.xattr.proofs.AreaLaws.{length-gathered}

@@ -1,13 +1,9 @@
 -- `list::write_texts` meets its contract: the texts of the attributes passed are written. Assumes nothing.
-use borrow.Author.Rules.{rules}
-use mathlib.Core.Path.{◌≡◌, refl, sym, ◌∙◌}
+use mathlib.Core.Path.{◌≡◌}
 use Prim.Native.Nat.{◌-◌, ◌≤◌}
-use native.Mathlib.Omega.{arith}
 use lib.ListN.{length}
-use Rattle.attrrec.proofs.WalkLaws.{sized}
 use Rattle.xattr.specs.Area.{gathered}
-use Rattle.xattr.proofs.AreaLaws.{length-gathered}
-use Rattle.xattr.proofs.ListLaws.{Writing, write_start, write-fits, write-next, write-end, write-bad}
+use Rattle.xattr.proofs.ListLaws.{Writing}
 use Rattle.xattr.proofs.list.write_texts.Given as goal
 
 abbrev pub invariant-loop-e : goal.invariant-loop-e

@@ -1,13 +1,8 @@
 -- `walk::find_in` meets its contract: no attribute passed has the text. Assumes nothing.
-use borrow.Author.Rules.{rules}
-use mathlib.Core.Path.{◌≡◌, sym, ◌∙◌}
+use mathlib.Core.Path.{◌≡◌}
 use Prim.Native.Nat.{◌-◌, ◌≤◌}
-use native.Mathlib.Omega.{arith}
 use Rattle.attrrec.specs.Search.{search_from, named, find_in}
-use Rattle.attrrec.proofs.WalkLaws.{sized}
-use Rattle.attrrec.proofs.SearchLaws.{search-hit, search-pass, search-end, search-bad, find_start}
 use Rattle.xattr.specs.Area.{gathered}
-use Rattle.xattr.proofs.AreaLaws.{length-gathered}
 use Rattle.xattr.proofs.walk.find_in.Given as goal
 
 abbrev pub invariant-loop-e : goal.invariant-loop-e

@@ -1,9 +1,0 @@
--- `put_u64` meets its contract. Assumes nothing.
-use Rattle.field.proofs.Laws.{put_num_little, put_num_big}
-use Rattle.field.proofs.put_u64.Goals as goal
-
-pub returns-in-Little : goal.returns-in-Little
-returns-in-Little c = rw (put_num_little c.in-Little.is 4 4) (rw c.put_u32.ensures at c.put_u32-in-Little.ensures)
-
-pub returns-in-Big : goal.returns-in-Big
-returns-in-Big c = rw (put_num_big c.in-Big.is 4 4) (rw c.put_u32-in-Big.ensures at c.put_u32-in-Big-2.ensures)
