@@ -29,16 +29,23 @@ pub trait Number: Copy {
         ensures { img.new ≡ put_num o BYTES at (number self) img.old };
 }
 
-// The low and the high half of a number.
-fn halves<T: Number>(o: Order, img: &[u8], at: usize) -> (T, T)
-    requires { at + T.BYTES + T.BYTES ≤ length img.now }
-    ensures { num o (T.BYTES + T.BYTES) at img.now ≡ T.number result.0 + 256 ^ T.BYTES * T.number result.1 }
+// A number, joined of its low and its high half: the join is in each arm, so that the bytes are read at once.
+fn joined<T: Number, W, J: Fn(T, T) -> W>(o: Order, img: &[u8], at: usize, join: J) -> W
+    requires room { at + T.BYTES + T.BYTES ≤ length img.now }
+    requires may { (low : T) (high : T) → J.pre join low high }
+    ensures { (low : T) × (high : T) × J.post join low high result × (num o (T.BYTES + T.BYTES) at img.now ≡ T.number low + 256 ^ T.BYTES * T.number high) }
 {
-    let first = T::get(o, img, at);
-    let second = T::get(o, img, at + T::BYTES);
     match o {
-        Order::Little => (first, second),
-        Order::Big => (second, first),
+        Order::Little => {
+            let low = T::get(Order::Little, img, at);
+            let high = T::get(Order::Little, img, at + T::BYTES);
+            join(low, high)
+        }
+        Order::Big => {
+            let high = T::get(Order::Big, img, at);
+            let low = T::get(Order::Big, img, at + T::BYTES);
+            join(low, high)
+        }
     }
 }
 
@@ -83,8 +90,12 @@ impl Number for u16 {
     const BYTES: usize = 2;
 
     fn get(o: Order, img: &[u8], at: usize) -> u16 {
-        let (low, high) = halves::<u8>(o, img, at);
-        low as u16 + high as u16 * 256
+        joined(
+            o,
+            img,
+            at,
+            |low: u8, high: u8| low as u16 + high as u16 * 256,
+        )
     }
 
     fn put(self, o: Order, img: &mut [u8], at: usize) {
@@ -100,8 +111,12 @@ impl Number for u32 {
     const BYTES: usize = 4;
 
     fn get(o: Order, img: &[u8], at: usize) -> u32 {
-        let (low, high) = halves::<u16>(o, img, at);
-        low as u32 + high as u32 * 65536
+        joined(
+            o,
+            img,
+            at,
+            |low: u16, high: u16| low as u32 + high as u32 * 65536,
+        )
     }
 
     fn put(self, o: Order, img: &mut [u8], at: usize) {
@@ -117,8 +132,12 @@ impl Number for u64 {
     const BYTES: usize = 8;
 
     fn get(o: Order, img: &[u8], at: usize) -> u64 {
-        let (low, high) = halves::<u32>(o, img, at);
-        low as u64 + high as u64 * 4294967296
+        joined(
+            o,
+            img,
+            at,
+            |low: u32, high: u32| low as u64 + high as u64 * 4294967296,
+        )
     }
 
     fn put(self, o: Order, img: &mut [u8], at: usize) {
