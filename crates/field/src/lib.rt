@@ -156,7 +156,10 @@ pub fn copy_bytes(dst: &mut [u8], at: usize, src: &[u8], from: usize, n: usize)
     requires { (at + n ≤ length dst.old) × (from + n ≤ length src.now) }
     ensures { dst.new ≡ put at (part n from src.now) dst.old }
 {
-    dst[at..at + n].copy_from_slice(&src[from..from + n]);
+    // Not `copy_from_slice`, which needs `memmove` from outside the archives for C.
+    for i in 0..n {
+        dst[at + i] = src[from + i];
+    }
 }
 
 // n zeros, written to dst from `at`.
@@ -173,5 +176,11 @@ pub fn same_bytes(img: &[u8], at: usize, src: &[u8]) -> bool
     ensures yes { result ≡ true → part (length src.now) at img.now ≡ src.now }
     ensures no { result ≡ false → part (length src.now) at img.now ≡ src.now → ⊥ }
 {
-    &img[at..at + src.len()] == src
+    // Not `==` of slices, a call that is not inlined: names are short, and a search compares many.
+    for i in 0..src.len() {
+        if img[at + i] != src[i] {
+            return false;
+        }
+    }
+    true
 }

@@ -1,27 +1,24 @@
--- `field::same_bytes` meets its contract. Assumes nothing.
+-- `field::same_bytes` meets its contract: the bytes passed agree. Assumes nothing.
+use borrow.Author.Count.{below_more}
 use borrow.Author.Rules.{rules}
-use native.Mathlib.Omega.{arith}
-use Prim.Native.Nat.{ℕ, ◌+◌, ◌-◌}
-use mathlib.Core.Path.{◌≡◌, sym, ap, ◌∙◌}
+use mathlib.Core.Path.{◌≡◌, sym}
 use mathlib.Core.Bool.{true, false}
-use lib.ListN.{take, drop, length}
-use lib.Pointwise.{bytes_decides}
-use Rattle.field.specs.Field.{part}
+use native.Mathlib.Omega.{arith}
+use Prim.Native.Nat.{ℕ}
+use Rattle.field.proofs.Laws.{part-is, part_at}
 use Rattle.field.proofs.same_bytes.Goals as goal
 
 apart : false ≡ true → ⊥
 apart e = let z : ◌≡◌ {A = ℕ} 0 1 = cc in omega arith
 
-pub returns-clause-yes : goal.returns-clause-yes
-unfolding part
-returns-clause-yes c =
-    let s = c.args in
-    let n : s.at + length s.src.now - s.at ≡ length s.src.now = omega arith in
-    λ e. ap (λ m. take m (drop s.at s.img.now)) (sym n) ∙ (bytes_decides _ _).0 (sym c.eq.ensures ∙ e)
+pub returns-then-img-at : goal.returns-then-img-at
+returns-then-img-at c =
+    let s = c.args in record { yes = λ e. absurd (apart e); no = λ e p. c.if-img-at.true (part_at s.at s.src.now s.img.now c.loop-i.i (omega arith) p) }
 
-pub returns-clause-no : goal.returns-clause-no
-unfolding part
-returns-clause-no c =
+pub loop-i-preserved : goal.loop-i-preserved
+loop-i-preserved c = below_more _ _ c.loop-i.invariant c.if-img-at.false
+
+pub returns : goal.returns
+returns c =
     let s = c.args in
-    let n : s.at + length s.src.now - s.at ≡ length s.src.now = omega arith in
-    λ e p. apart (sym e ∙ c.eq.ensures ∙ (bytes_decides _ _).1 (ap (λ m. take m (drop s.at s.img.now)) n ∙ p))
+    record { yes = λ e. part-is s.at s.src.now s.img.now c.requires (λ i b. c.loop-i.invariant i (omega arith)); no = λ e. absurd (apart (sym e)) }
