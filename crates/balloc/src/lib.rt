@@ -48,7 +48,10 @@ pub fn blk_free_cut(
 ) -> Result<(u64, Volume), Refusal>
     ensures { (img.new, result) ≡ free_cut vol a.0 size k img.old }
 {
-    let geo = sound::take_volume(img)?; // 97, even for address 0
+    // Not a `?`, so that a must-fail edit can change what is answered here.
+    let Ok(geo) = sound::take_volume(img) else {
+        return Err(Refusal::Damaged); // 97, even for address 0
+    };
     if !vol.writable {
         return Err(Refusal::ReadOnly); // 30, even for address 0
     }

@@ -21,7 +21,11 @@ pub fn lookup_in(img: &[u8], geo: Geometry, dinr: InodeNum, name: &[u8]) -> Resu
     }
     let s = dirfile::find_dir(img, geo, dinr)?;
     let shape = s.shape;
-    match dirwalk::lookup_dir(img, geo, s.at, shape.size, name)? {
+    // Not a `?`, so that a must-fail edit can change what is answered here.
+    let Ok(found) = dirwalk::lookup_dir(img, geo, s.at, shape.size, name) else {
+        return Err(Refusal::Damaged); // what is behind it may have the name
+    };
+    match found {
         Some(i) => Ok(i),
         None => Err(Refusal::NoEntry),
     }
@@ -31,6 +35,9 @@ pub fn lookup_in(img: &[u8], geo: Geometry, dinr: InodeNum, name: &[u8]) -> Resu
 pub fn dir_lookup(img: &[u8], dinr: InodeNum, name: &[u8]) -> Result<u32, Refusal>
     ensures { result ≡ lookup_of (dir_lookup img.now dinr.0 name.now) }
 {
-    let geo = sound::take_volume(img)?;
+    // Not a `?`, so that a must-fail edit can change what is answered here.
+    let Ok(geo) = sound::take_volume(img) else {
+        return Err(Refusal::Damaged); // an unsound volume
+    };
     lookup_in(img, geo, dinr, name)
 }

@@ -29,7 +29,11 @@ pub struct DirEntry {
 fn listed_from(o: Order, block: &[u8], from: usize) -> Result<Option<Spot>, Damage>
     ensures { result ≡ listed_from o block.now from }
 {
-    search_from(o, block, from, |_, e| is_listed(e))
+    // Not the search's answer as it is, so that a must-fail edit can change what is answered here.
+    let Ok(found) = search_from(o, block, from, |_, e| is_listed(e)) else {
+        return Err(Damage); // not the end of the block
+    };
+    Ok(found)
 }
 
 // Block k read into the buffer, which is left as it was where the block cannot be read.

@@ -15,6 +15,9 @@ pub fn take_name(img: &mut [u8], geo: Geometry, dinr: InodeNum, name: &[u8]) -> 
     requires { Frame geo img.old }
     ensures { (img.new, written_out result) ≡ leaves (take_name geo dinr.0 name.now) img.old }
 {
-    let i = dirlink::unlink_name(img, geo, dinr, name)?;
-    dirwrite::free_found(img, geo, InodeNum(i))
+    // Not a `?`, so that a must-fail edit can change what is answered here.
+    match dirlink::unlink_name(img, geo, dinr, name) {
+        Ok(i) => dirwrite::free_found(img, geo, InodeNum(i)),
+        Err(e) => Err(e),
+    }
 }

@@ -99,7 +99,11 @@ fn find_block(
     let Some(p) = dirfile::block_at(img, geo, at, size, k)? else {
         return Ok(None); // a hole holds no record
     };
-    match unlinked_in(o, &img[p..p + 512], name)? {
+    // Not a `?`, so that a must-fail edit can change what is answered here.
+    let Ok(found) = unlinked_in(o, &img[p..p + 512], name) else {
+        return Err(Damage); // the search stops here
+    };
+    match found {
         Unlinked::Done(inr) => Ok(Some(Hit {
             block: k,
             inr,

@@ -12,7 +12,11 @@ use volume::InodeNum;
 pub fn inode_attr(img: &[u8], inr: InodeNum) -> Result<InodeAttr, Refusal>
     ensures { result ≡ attr_answer (inode_attr img.now inr.0) }
 {
-    let (geo, s) = inode_read::know_inode(img, inr)?;
+    // Not a `?`, so that a must-fail edit can change what is answered here.
+    let (geo, s) = match inode_read::know_inode(img, inr) {
+        Ok(found) => found,
+        Err(e) => return Err(e),
+    };
     let o = geo.order;
     let shape = s.shape;
     let ino = inode_record::read_inode(img, o, s.at);

@@ -21,7 +21,11 @@ fn size_of_block(geo: Geometry, s: Shape, i: BlockIdx) -> Result<u64, Refusal>
     if !inode::is_sized(s) {
         return Err(Refusal::Damaged);
     }
-    inode::get_block_size(geo, s.size, i).ok_or(Refusal::Invalid)
+    // Not `ok_or`, so that a must-fail edit can change what is answered here.
+    let Some(n) = inode::get_block_size(geo, s.size, i) else {
+        return Err(Refusal::Invalid); // past the end
+    };
+    Ok(n)
 }
 
 // inode_get_block_size: how many bytes the block at an index holds.

@@ -47,15 +47,21 @@ fn rmdir_in(img: &mut [u8], geo: Geometry, dinr: InodeNum, name: &[u8]) -> Resul
     requires { Frame geo img.old }
     ensures { (img.new, written_out result) ≡ leaves (rmdir_for dinr.0 name.now geo) img.old }
 {
-    let i = rmdir_judge::judge_rmdir(img, geo, dinr, name)?;
-    remove_dir(img, geo, dinr, name, i)
+    // Not a `?`, so that a must-fail edit can change what is answered here.
+    match rmdir_judge::judge_rmdir(img, geo, dinr, name) {
+        Ok(i) => remove_dir(img, geo, dinr, name, i),
+        Err(e) => Err(e),
+    }
 }
 
 // rmdir: the empty directory of that name goes.
 pub fn rmdir(img: &mut [u8], vol: Volume, dinr: InodeNum, name: &[u8]) -> Result<(), Refusal>
     ensures { (img.new, written_out result) ≡ leaves (rmdir_call vol dinr.0 name.now) img.old }
 {
-    let geo = sound::take_volume(img)?;
+    // Not a `?`, so that a must-fail edit can change what is answered here.
+    let Ok(geo) = sound::take_volume(img) else {
+        return Err(Refusal::Damaged);
+    };
     if !vol.writable {
         return Err(Refusal::ReadOnly);
     }

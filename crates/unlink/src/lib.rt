@@ -14,8 +14,11 @@ fn unlink_in(img: &mut [u8], geo: Geometry, dinr: InodeNum, name: &[u8]) -> Resu
     requires { Frame geo img.old }
     ensures { (img.new, written_out result) ≡ leaves (unlink_for dinr.0 name.now geo) img.old }
 {
-    unlink_judge::judge_unlink(img, geo, dinr, name)?;
-    dirtake::take_name(img, geo, dinr, name)
+    // Not a `?`, so that a must-fail edit can change what is answered here.
+    match unlink_judge::judge_unlink(img, geo, dinr, name) {
+        Ok(()) => dirtake::take_name(img, geo, dinr, name),
+        Err(e) => Err(e),
+    }
 }
 
 // unlink: the name goes from the directory, and with its last name the inode.

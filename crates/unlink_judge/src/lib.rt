@@ -50,7 +50,12 @@ fn judge_in(img: &[u8], geo: Geometry, s: Spot, name: &[u8]) -> Result<(), Refus
     ensures { growth_out result ≡ left_of geo img.now s.shape.size (find_dir geo s.at s.shape.size img.now name.now) }
 {
     let shape = s.shape;
-    let Some(h) = dirwalk::find_dir(img, geo, s.at, shape.size, name)? else {
+    // Not a `?`, so that a must-fail edit can change what is answered here.
+    let found = match dirwalk::find_dir(img, geo, s.at, shape.size, name) {
+        Ok(found) => found,
+        Err(_) => return Err(Refusal::Damaged), // what is behind it may have the name
+    };
+    let Some(h) = found else {
         return Err(Refusal::NoEntry);
     };
     if !found_ok(img, geo, h.inr) {

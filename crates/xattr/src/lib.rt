@@ -45,7 +45,10 @@ fn hit_at(
 {
     let o = geo.order;
     let a = blocks::area_of(img, geo, at)?;
-    let found = walk::find_in(img, o, a, name)?;
+    // Not a `?`, so that a must-fail edit can change what is answered here.
+    let Ok(found) = walk::find_in(img, o, a, name) else {
+        return Err(Refusal::Damaged); // what is behind it may have the name
+    };
     let (b, e) = found.ok_or(Refusal::NoAttribute)?;
     Ok((a, b, e))
 }

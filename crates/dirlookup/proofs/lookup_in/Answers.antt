@@ -3,6 +3,7 @@ use borrow.Author.Rules.{rules}
 use borrow.Author.Tests.{not-true, not-false}
 use mathlib.Core.Path.{sym, ap, ◌∙◌}
 use Rattle.std.specs.Prelude.{Ok, Err}
+use Rattle.refusal.specs.Refusal.{damage}
 use Rattle.refusal.proofs.ExitLaws.{passed}
 use Rattle.inode_run.proofs.FindLaws.{found-got}
 use Rattle.inode_read.proofs.JudgeLaws.{found_no}
@@ -25,12 +26,12 @@ lookup_dir-requires c = let fr = c.requires in (fr, (dir-named _ _ fr _ _ (found
 pub returns-in-Some : goal.returns-in-Some
 returns-in-Some c =
     sym (ap lookup_of (lookup-dir _ _ _ _ (sym c.is_taken.ensures ∙ c.if-not-is_taken.false) (sym c.is_short.ensures ∙ c.if-not-is_short.false)
-    _ (found-got _ _ c.in_ok-s.ensures) (Ok c.in_ok-i.field-0) c.in_ok-i.ensures ∙ ap (λ x. sought_out (looked_out (Ok x))) c.in-Some.is))
+    _ (found-got _ _ c.in_ok-s.ensures) (Ok c.in-Ok.found) c.in-Ok.ensures ∙ ap (λ x. sought_out (looked_out (Ok x))) c.in-Some.is))
 
 pub returns-in-None : goal.returns-in-None
 returns-in-None c =
     sym (ap lookup_of (lookup-dir _ _ _ _ (sym c.is_taken.ensures ∙ c.if-not-is_taken.false) (sym c.is_short.ensures ∙ c.if-not-is_short.false)
-    _ (found-got _ _ c.in_ok-s.ensures) (Ok c.in_ok-i.field-0) c.in_ok-i.ensures ∙ ap (λ x. sought_out (looked_out (Ok x))) c.in-None.is))
+    _ (found-got _ _ c.in_ok-s.ensures) (Ok c.in-Ok.found) c.in-Ok.ensures ∙ ap (λ x. sought_out (looked_out (Ok x))) c.in-None.is))
 
 pub returns-in_err-s : goal.returns-in_err-s
 returns-in_err-s c =
@@ -38,8 +39,7 @@ returns-in_err-s c =
     ∙ sym (ap lookup_of (lookup-no-dir _ _ _ _ (sym c.is_taken.ensures ∙ c.if-not-is_taken.false) (sym c.is_short.ensures ∙ c.if-not-is_short.false)
     _ (found_no _ _ c.in_err-s.ensures)))
 
-pub returns-in_err-i : goal.returns-in_err-i
-returns-in_err-i c =
-    passed _ _ c.from_residual-in_err-i.ensures
-    ∙ sym (ap lookup_of (lookup-dir _ _ _ _ (sym c.is_taken.ensures ∙ c.if-not-is_taken.false) (sym c.is_short.ensures ∙ c.if-not-is_short.false)
-    _ (found-got _ _ c.in_ok-s.ensures) (Err c.in_err-i.field-0.0) c.in_err-i.ensures))
+pub returns-in_default : goal.returns-in_default
+returns-in_default c =
+    sym (ap lookup_of (lookup-dir _ _ _ _ (sym c.is_taken.ensures ∙ c.if-not-is_taken.false) (sym c.is_short.ensures ∙ c.if-not-is_short.false)
+    _ (found-got _ _ c.in_ok-s.ensures) (Err damage) c.in_default.ensures))

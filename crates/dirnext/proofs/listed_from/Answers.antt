@@ -5,4 +5,8 @@ use Rattle.dirnext.proofs.listed_from.Goals as goal
 
 pub returns : goal.returns
 unfolding listed_from
-returns c = c.search_from.ensures is_listed (λ pos e r h q. search rules)
+returns c = c.in-Ok.ensures is_listed (λ pos e r h q. search rules)
+
+pub returns-in_default : goal.returns-in_default
+unfolding listed_from
+returns-in_default c = c.in_default.ensures is_listed (λ pos e r h q. search rules)

@@ -14,15 +14,14 @@ returns-in_err-p c = ap seen_out (passed _ _ c.from_residual.ensures) ∙ said-b
 pub returns-in_default : goal.returns-in_default
 returns-in_default c = sym (ap (seen_in c.args.k) (unlink-zeros _ _)) ∙ said-hole _ _ c.block_at.ensures.0 (c.in_ok-p.was ∙ ap Ok c.in_default.is)
 
-pub returns-in_err-inr : goal.returns-in_err-inr
-returns-in_err-inr c =
-    ap seen_out (passed _ _ c.from_residual-in_err-inr.ensures) ∙ ap (seen_in c.args.k) c.in_err-inr.ensures ∙ said_at _ _ c.block_at.ensures.0 _ (c.in_ok-p.was ∙ ap Ok c.in-Some.is)
+pub returns-in_default-unlinked_in : goal.returns-in_default-unlinked_in
+returns-in_default-unlinked_in c = ap (seen_in c.args.k) c.in_default-unlinked_in.ensures ∙ said_at _ _ c.block_at.ensures.0 _ (c.in_ok-p.was ∙ ap Ok c.in-Some.is)
 
 pub returns-in-Done : goal.returns-in-Done
-returns-in-Done c = sym (ap (seen_in c.args.k) (sym c.in_ok-inr.ensures ∙ ap Ok c.in-Done.is)) ∙ said_at _ _ c.block_at.ensures.0 _ (c.in_ok-p.was ∙ ap Ok c.in-Some.is)
+returns-in-Done c = sym (ap (seen_in c.args.k) (sym c.in-Ok.ensures ∙ ap Ok c.in-Done.is)) ∙ said_at _ _ c.block_at.ensures.0 _ (c.in_ok-p.was ∙ ap Ok c.in-Some.is)
 
 pub returns-in-Alone : goal.returns-in-Alone
-returns-in-Alone c = sym (ap (seen_in c.args.k) (sym c.in_ok-inr.ensures ∙ ap Ok c.in-Alone.is)) ∙ said_at _ _ c.block_at.ensures.0 _ (c.in_ok-p.was ∙ ap Ok c.in-Some.is)
+returns-in-Alone c = sym (ap (seen_in c.args.k) (sym c.in-Ok.ensures ∙ ap Ok c.in-Alone.is)) ∙ said_at _ _ c.block_at.ensures.0 _ (c.in_ok-p.was ∙ ap Ok c.in-Some.is)
 
 pub returns-in-Absent : goal.returns-in-Absent
-returns-in-Absent c = sym (ap (seen_in c.args.k) (sym c.in_ok-inr.ensures ∙ ap Ok c.in-Absent.is)) ∙ said_at _ _ c.block_at.ensures.0 _ (c.in_ok-p.was ∙ ap Ok c.in-Some.is)
+returns-in-Absent c = sym (ap (seen_in c.args.k) (sym c.in-Ok.ensures ∙ ap Ok c.in-Absent.is)) ∙ said_at _ _ c.block_at.ensures.0 _ (c.in_ok-p.was ∙ ap Ok c.in-Some.is)

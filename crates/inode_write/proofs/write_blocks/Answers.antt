@@ -1,5 +1,5 @@
 -- `write_blocks` meets its contract: after each turn the blocks before block i are written. Assumes nothing.
-use mathlib.Core.Path.{◌≡◌, refl}
+use mathlib.Core.Path.{◌≡◌, refl, ap, ◌∙◌}
 use mathlib.Core.List.{List}
 use native.Mathlib.Omega.{arith}
 use Prim.Native.Nat.{ℕ, ◌-◌, ◌<◌, min}
@@ -20,6 +20,10 @@ piece : {geo : Geometry} {at size off : ℕ} {buf : List ℕ} {held : ℕ} {star
     → done < length buf → (num : ℕ) → num ≡ min (geo.bsize - from) (length buf - done) → Piece geo.bsize off (length buf) i from done num
 piece g l num e = turn-piece _ _ _ g.some _ _ _ g.turn l num e
 
+-- the piece's length is the least of the two, whatever number stands for what is left
+least : (a b j num : ℕ) → num ≡ min a j → j ≡ b → num ≡ min a b
+least a b j num e h = e ∙ ap (min a) h
+
 pub nonzero_div-i : goal.nonzero_div-i
 nonzero_div-i c = block-some _ c.requires.0.sizes
 
@@ -39,16 +43,16 @@ pub write_block-requires : goal.write_block-requires
 write_block-requires c =
     let k = c.requires in
     let g = c.loop-done.invariant in
-    let p = piece g c.loop-done-test.true _ c.min-num.ensures in
+    let p = piece g c.loop-done-test.true _ (least _ _ _ _ c.min-num.ensures (omega arith)) in
     (g.steady.frame, omega (arith, g.steady.long, k.1), k.2, p.some, p.within_block, omega (arith, p.reach, k.4), p.asked)
 
 pub returns-in_err-all : goal.returns-in_err-all
 returns-in_err-all c =
     let g = c.loop-done.invariant in
-    rw (passed _ _ c.from_residual.ensures) (rest-stop _ _ _ _ _ g.some _ _ _ _ _ g.turn _ _ g.rest c.loop-done-test.true _ c.min-num.ensures c.in_err-all.ensures refl)
+    rw (passed _ _ c.from_residual.ensures) (rest-stop _ _ _ _ _ g.some _ _ _ _ _ g.turn _ _ g.rest c.loop-done-test.true _ (least _ _ _ _ c.min-num.ensures (omega arith)) c.in_err-all.ensures refl)
 
 pub overflow_add-done : goal.overflow_add-done
-overflow_add-done c = omega (arith, (piece c.loop-done.invariant c.loop-done-test.true _ c.min-num.ensures).asked)
+overflow_add-done c = omega (arith, (piece c.loop-done.invariant c.loop-done-test.true _ (least _ _ _ _ c.min-num.ensures (omega arith))).asked)
 
 pub overflow_add-i : goal.overflow_add-i
 overflow_add-i c =
@@ -56,14 +60,14 @@ overflow_add-i c =
     omega (arith, turn_small _ _ _ g.some _ _ _ g.turn c.loop-done-test.true, c.requires.4)
 
 pub loop-done-smaller : goal.loop-done-smaller
-loop-done-smaller c = omega (arith, c.loop-done-test.true, (piece c.loop-done.invariant c.loop-done-test.true _ c.min-num.ensures).some)
+loop-done-smaller c = omega (arith, c.loop-done-test.true, (piece c.loop-done.invariant c.loop-done-test.true _ (least _ _ _ _ c.min-num.ensures (omega arith))).some)
 
 pub loop-done-preserved : goal.loop-done-preserved
 loop-done-preserved c =
     let k = c.requires in
     let g = c.loop-done.invariant in
     let l = c.loop-done-test.true in
-    let e = c.min-num.ensures in
+    let e = (least _ _ _ _ c.min-num.ensures (omega arith)) in
     let p = piece g l _ e in
     record {
       some = g.some;

@@ -2,26 +2,24 @@
 use borrow.Author.Rules.{rules}
 use mathlib.Core.Path.{sym, ap, ◌∙◌}
 use Rattle.std.specs.Prelude.{Ok}
-use Rattle.refusal.proofs.ExitLaws.{passed}
-use Rattle.inode_grow.specs.Grow.{growth_out}
 use Rattle.dirwalk.specs.Walk.{seen_out}
 use Rattle.unlink_judge.proofs.UnlinkLaws.{found_number, found-size, left-nowhere, left-hurt, left-hit}
 use Rattle.unlink_judge.proofs.judge_in.Goals as goal
 
-pub returns-in_err-h : goal.returns-in_err-h
-returns-in_err-h c = ap growth_out (passed _ _ c.from_residual.ensures) ∙ sym (left-hurt _ _ _ _ (sym c.in_err-h.ensures))
+pub returns-in-Err : goal.returns-in-Err
+returns-in-Err c = sym (left-hurt _ _ _ _ (sym c.in-Err.ensures))
 
 pub returns-in_default : goal.returns-in_default
-returns-in_default c = sym (left-nowhere _ _ _ _ (sym c.in_ok-h.ensures ∙ ap (λ x. seen_out (Ok x)) c.in_default.is))
+returns-in_default c = sym (left-nowhere _ _ _ _ (sym c.in-Ok.ensures ∙ ap (λ x. seen_out (Ok x)) c.in_default.is))
 
 pub judge_hit-requires : goal.judge_hit-requires
 judge_hit-requires c = (
   c.requires.0,
   found_number _ _ _ (sym c.found_ok.ensures ∙ c.if-not-found_ok.false),
-  found-size _ _ _ _ _ _ (sym c.in_ok-h.ensures ∙ ap (λ x. seen_out (Ok x)) c.in-Some.is),
+  found-size _ _ _ _ _ _ (sym c.in-Ok.ensures ∙ ap (λ x. seen_out (Ok x)) c.in-Some.is),
 )
 
 pub returns : goal.returns
 returns c =
     c.judge_hit.ensures
-    ∙ sym (left-hit _ _ _ _ _ (sym c.in_ok-h.ensures ∙ ap (λ x. seen_out (Ok x)) c.in-Some.is) (sym c.found_ok.ensures ∙ c.if-not-found_ok.false))
+    ∙ sym (left-hit _ _ _ _ _ (sym c.in-Ok.ensures ∙ ap (λ x. seen_out (Ok x)) c.in-Some.is) (sym c.found_ok.ensures ∙ c.if-not-found_ok.false))
